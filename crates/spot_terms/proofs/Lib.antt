@@ -1,0 +1,10 @@
+pub mod ReportText
+pub mod Readings
+pub mod Roots
+pub mod Products
+pub mod Quotients
+pub mod ListLemmas
+pub mod Ring
+pub mod Mixes
+pub mod Hulls
+pub mod Segments

@@ -1,0 +1,86 @@
+-- What is in a list, and lists in step.
+use Rattle.std.proofs.Common.{◌≡◌, ◌∙◌, ◌⊎◌, inl, inr, ℕ, zero, suc, ◌+◌, ◌<◌, ◌≤◌, Bool, true, false, cond, List, [], ◌∷◌, ◌++◌, map, filter, refl, sym, ap, subst, arith, add-zero, zero-add}
+use Rattle.std.proofs.lemmas.Bool.{cases_lt}
+use Rattle.std.specs.List.{flat_map, AllByRecursion}
+use Rattle.spot_terms.specs.Lists.{Includes, Pairwise, numbers_below, numbers_from}
+
+-- ---- Includes
+
+pub includes_front : {X : Type 0} (xs ys : List X) (x : X) → Includes xs x → Includes (xs ++ ys) x
+includes_front [] ys x i = absurd i
+includes_front (y ∷ xs) ys x (inl e) = inl e
+includes_front (y ∷ xs) ys x (inr i) = inr (includes_front xs ys x i)
+
+pub includes_back : {X : Type 0} (xs ys : List X) (x : X) → Includes ys x → Includes (xs ++ ys) x
+includes_back [] ys x i = i
+includes_back (y ∷ xs) ys x i = inr (includes_back xs ys x i)
+
+pub includes_map : {X Y : Type 0} (f : X → Y) (xs : List X) (x : X) → Includes xs x → Includes (map f xs) (f x)
+includes_map f [] x i = absurd i
+includes_map f (y ∷ xs) x (inl e) = inl (ap f e)
+includes_map f (y ∷ xs) x (inr i) = inr (includes_map f xs x i)
+
+pub includes_flat_map : {X Y : Type 0} (f : X → List Y) (xs : List X) (x : X) (y : Y) → Includes xs x → Includes (f x) y → Includes (flat_map f xs) y
+includes_flat_map f [] x y i j = absurd i
+includes_flat_map f (z ∷ xs) x y (inl e) j = includes_front (f z) (flat_map f xs) y (subst (λ k. Includes (f k) y) e j)
+includes_flat_map f (z ∷ xs) x y (inr i) j = includes_back (f z) (flat_map f xs) y (includes_flat_map f xs x y i j)
+
+last_or_before : (n k : ℕ) → k < suc n → (k < n) ⊎ (k ≡ n)
+last_or_before n k h = elim (cases_lt k n) [ inl l ↦ inl l | inr g ↦ inr (omega arith) ]
+
+pub includes_below : (n k : ℕ) → k < n → Includes (numbers_below n) k
+unfolding numbers_below
+includes_below zero k h = absurd (omega arith)
+includes_below (suc n) k h = elim (last_or_before n k h) as (λ _. Includes (numbers_below n ++ n ∷ []) k) [
+  | inl l ↦ includes_front (numbers_below n) (n ∷ []) k (includes_below n k l)
+  | inr e ↦ includes_back (numbers_below n) (n ∷ []) k (inl e)
+]
+
+pub includes_filter : {X : Type 0} (test : X → Bool) (xs : List X) (x : X) → test x ≡ true → Includes xs x → Includes (filter test xs) x
+includes_filter test [] x h i = absurd i
+includes_filter test (y ∷ xs) x h (inl e) = let q : test y ≡ true = sym (ap test e) ∙ h in rw q (inl e)
+includes_filter test (y ∷ xs) x h (inr i) =
+    let rest : Includes (filter test xs) x = includes_filter test xs x h i in
+    elim (test y) as (λ t. Includes (cond t (y ∷ filter test xs) (filter test xs)) x) [ true ↦ inr rest | false ↦ rest ]
+
+pub all_included : {X : Type 0} (P : X → Type 0) (xs : List X) (x : X) → AllByRecursion P xs → Includes xs x → P x
+all_included P [] x a i = absurd i
+all_included P (y ∷ xs) x a (inl e) = subst P (sym e) a.0
+all_included P (y ∷ xs) x a (inr i) = all_included P xs x a.1 i
+
+-- ---- numbers
+
+from-push : (n count : ℕ) → numbers_from n (suc count) ≡ numbers_from n count ++ (n + count) ∷ []
+from-push n zero = rw add-zero refl
+from-push n (suc count) =
+    let rest : numbers_from (n + 1) (suc count) ≡ numbers_from (n + 1) count ++ (n + 1 + count) ∷ [] = from-push (n + 1) count in
+    let last : n + 1 + count ≡ n + suc count = omega arith in
+    ap (λ (xs : List ℕ). n ∷ xs) (rw last at rest)
+
+pub below-from : (n : ℕ) → numbers_below n ≡ numbers_from 0 n
+unfolding numbers_below
+below-from zero = refl
+below-from (suc n) = let before = below-from n in rw before (rw zero-add at (sym (from-push 0 n)))
+
+-- ---- Pairwise
+
+-- an item has its partner
+pub partner : {X Y : Type 0} (R : X → Y → Type 0) (xs : List X) (ys : List Y) (x : X) → Pairwise R xs ys → Includes xs x → (y : Y) × Includes ys y × R x y
+partner R [] ys x p i = absurd i
+partner R (z ∷ xs) [] x p i = absurd p
+partner R (z ∷ xs) (y ∷ ys) x p (inl e) = (y, inl refl, subst (λ k. R k y) (sym e) p.0)
+partner R (z ∷ xs) (y ∷ ys) x p (inr i) = let (w, j, r) = partner R xs ys x p.1 i in (w, inr j, r)
+
+-- one more pair at the end
+pub pairwise_push : {X Y : Type 0} (R : X → Y → Type 0) (xs : List X) (ys : List Y) (x : X) (y : Y) → Pairwise R xs ys → R x y → Pairwise R (xs ++ x ∷ []) (ys ++ y ∷ [])
+pairwise_push R [] [] x y p r = (r, tt)
+pairwise_push R [] (b ∷ ys) x y p r = absurd p
+pairwise_push R (a ∷ xs) [] x y p r = absurd p
+pairwise_push R (a ∷ xs) (b ∷ ys) x y p r = (p.0, pairwise_push R xs ys x y p.1 r)
+
+-- in step with what a function gives
+pub pairwise_map : {X Y Z : Type 0} (R : X → Y → Type 0) (f : X → Z) (g : Y → Z) (xs : List X) (ys : List Y) → ((x : X) (y : Y) → R x y → f x ≡ g y) → Pairwise R xs ys → map f xs ≡ map g ys
+pairwise_map R f g [] [] h p = refl
+pairwise_map R f g [] (b ∷ ys) h p = absurd p
+pairwise_map R f g (a ∷ xs) [] h p = absurd p
+pairwise_map R f g (a ∷ xs) (b ∷ ys) h p = let e : f a ≡ g b = h a b p.0 in let t : map f xs ≡ map g ys = pairwise_map R f g xs ys h p.1 in cc

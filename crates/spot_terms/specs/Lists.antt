@@ -1,0 +1,30 @@
+-- Lists, by cases: what is in one, two in step, and the numbers below a number.
+use Rattle.std.specs.Prelude.{◌≡◌, ◌⊎◌, ℕ, zero, suc, ◌+◌, List, [], ◌∷◌, ◌++◌}
+
+-- x is an item of the list
+abbrev pub Includes : {X : Type 0} → List X → X → Type 0
+Includes [] x = ⊥
+Includes (y ∷ ys) x = (x ≡ y) ⊎ Includes ys x
+
+-- each item of the first list with the item of the second in its place
+abbrev pub Pairwise : {A B : Type 0} → (A → B → Type 0) → List A → List B → Type 0
+Pairwise R [] [] = Unit {0}
+Pairwise R [] (y ∷ ys) = ⊥
+Pairwise R (x ∷ xs) [] = ⊥
+Pairwise R (x ∷ xs) (y ∷ ys) = R x y × Pairwise R xs ys
+
+-- the item at place k, from 0
+abbrev pub At : {X : Type 0} → List X → ℕ → X → Type 0
+At [] k x = ⊥
+At (y ∷ ys) zero x = x ≡ y
+At (y ∷ ys) (suc k) x = At ys k x
+
+-- so many numbers from n on
+abbrev pub numbers_from : ℕ → ℕ → List ℕ
+numbers_from n zero = []
+numbers_from n (suc count) = n ∷ numbers_from (n + 1) count
+
+-- 0, 1, 2 and so on, up to the number before n
+unfoldable pub numbers_below : ℕ → List ℕ
+numbers_below zero = []
+numbers_below (suc n) = numbers_below n ++ n ∷ []
