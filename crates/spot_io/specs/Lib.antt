@@ -1,0 +1,2 @@
+-- What reading to the end means.
+pub mod Reads
