@@ -1,0 +1,7 @@
+pub mod Cuts
+pub mod Texts
+pub mod Values
+pub mod Fronts
+pub mod Nearest
+pub mod Sizes
+pub mod Signs

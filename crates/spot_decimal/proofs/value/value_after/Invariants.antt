@@ -1,0 +1,9 @@
+use Rattle.std.proofs.Common.{◌≡◌, ◌<◌, ◌+◌, ◌^◌, take}
+use Rattle.std.specs.Str.Parse.{digits_value_after}
+use Rattle.spot_decimal.proofs.value.value_after.Given as goal
+
+abbrev pub invariant-loop-b : goal.invariant-loop-b
+invariant-loop-b l = record {
+  value : l.value ≡ digits_value_after 10 l.start (take l.b-index l.digits);
+  small : l.value < 10 ^ 19 + 10;
+}

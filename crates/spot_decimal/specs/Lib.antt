@@ -1,0 +1,2 @@
+-- The parts of decimal texts and their rounded sizes.
+pub mod Written
