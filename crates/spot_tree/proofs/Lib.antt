@@ -1,0 +1,5 @@
+pub mod Numbering
+pub mod Counting
+pub mod Blanks
+pub mod Children
+pub mod Readings
