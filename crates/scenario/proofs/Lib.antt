@@ -1,0 +1,13 @@
+pub mod Accepts
+pub mod Counts
+pub mod DigitLemmas
+pub mod Facts
+pub mod Faults
+pub mod Few
+pub mod Firsts
+pub mod Members
+pub mod Paths
+pub mod Readings
+pub mod Rises
+pub mod Parts
+pub mod Unique

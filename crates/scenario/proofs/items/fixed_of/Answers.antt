@@ -1,0 +1,14 @@
+use Rattle.std.proofs.Common.{get_or}
+use Rattle.spot_terms.specs.Ranges.{IsFixedInRange}
+use Rattle.spot_claims.specs.Scenario.{IsFixed}
+use Rattle.scenario.proofs.Members.{item_in, pair_taken, each_more}
+use Rattle.scenario.proofs.items.fixed_of.Goals as goal
+
+pub fixed_at-requires-clause-has : goal.fixed_at-requires-clause-has
+fixed_at-requires-clause-has c = c.requires.has (get_or c.args.elements.now c.loop-e.e-index 0) (item_in c.args.elements.now c.loop-e.e-index 0 c.loop-e-test.true)
+
+pub loop-e-preserved : goal.loop-e-preserved
+loop-e-preserved c = record {
+  are = pair_taken (IsFixed c.args.tree.now) c.args.elements.now c.loop-e.fixed.items c.push.new.self.items c.loop-e.e-index 0 c.in_ok-fixed_at.field-0 c.loop-e-test.true c.in_ok-push.ensures.items c.loop-e.invariant.are c.in_ok-fixed_at.ensures.is;
+  within = each_more IsFixedInRange c.loop-e.fixed.items c.push.new.self.items c.in_ok-fixed_at.field-0 c.in_ok-push.ensures.items c.loop-e.invariant.within c.in_ok-fixed_at.ensures.within;
+}

@@ -1,0 +1,22 @@
+use Rattle.std.proofs.Common.{get_or, arith}
+use Rattle.spot_claims.specs.Scenario.{IsPair}
+use Rattle.scenario.specs.Lanes.{IsPairInRange}
+use Rattle.scenario.proofs.Facts.{pair_is, pair_in, size_of}
+use Rattle.scenario.proofs.Members.{item_in, pair_taken, each_more}
+use Rattle.scenario.proofs.Readings.{held_in}
+use Rattle.scenario.proofs.lanes.points_of.Goals as goal
+
+pub point_at-point-requires-clause-has : goal.point_at-point-requires-clause-has
+point_at-point-requires-clause-has c = c.requires.has (get_or c.args.elements.now c.loop-e.e-index 0) (item_in c.args.elements.now c.loop-e.e-index 0 c.loop-e-test.true)
+
+pub loop-e-preserved : goal.loop-e-preserved
+loop-e-preserved c =
+    let x = size_of c.point_at-point.result.x c.point_at-point.ensures.x_within in
+    let y = size_of c.point_at-point.result.y c.point_at-point.ensures.y_within in
+    let hx = held_in c.point_at-point.result.x 10_000_000_000_000 x (omega arith) in
+    let hy = held_in c.point_at-point.result.y 10_000_000_000_000 y (omega arith) in
+    record {
+      are = pair_taken (IsPair c.args.tree.now) c.args.elements.now c.loop-e.points.items c.push.new.self.items c.loop-e.e-index 0 _ c.loop-e-test.true c.in_ok-push.ensures.items c.loop-e.invariant.are
+          (pair_is c.args.tree.now (get_or c.args.elements.now c.loop-e.e-index 0) c.point_at-point.result _ hx hy c.point_at-point.ensures.holds);
+      within = each_more IsPairInRange c.loop-e.points.items c.push.new.self.items _ c.in_ok-push.ensures.items c.loop-e.invariant.within (pair_in c.point_at-point.result _ hx hy x y);
+    }

@@ -1,0 +1,18 @@
+use Rattle.std.proofs.Common.{arith}
+use Rattle.spot_claims.specs.Scenario.{IsMover, IsFixed}
+use Rattle.spot_claims.specs.Paths.{at_path, statics, dynamics}
+use Rattle.scenario.proofs.Facts.{pair_length}
+use Rattle.scenario.proofs.read.values_of.Goals as goal
+
+pub returns-clause-in_range : goal.returns-clause-in_range
+returns-clause-in_range c =
+    let n = pair_length (IsMover c.args.tree.now) (at_path c.args.tree.now dynamics) c.in_ok-movers_in.field-0 c.in_ok-movers_in.ensures.are in
+    let m = pair_length (IsFixed c.args.tree.now) (at_path c.args.tree.now statics) c.in_ok-fixed_in.field-0 c.in_ok-fixed_in.ensures.are in
+    record {
+      step_low = c.step_of.ensures.low;
+      step_high = c.step_of.ensures.high;
+      few = omega (arith, n, m, c.few_obstacles.ensures);
+      movers = c.in_ok-movers_in.ensures.within;
+      fixed = c.in_ok-fixed_in.ensures.within;
+      problems = c.in_ok-problems_in.ensures.within;
+    }

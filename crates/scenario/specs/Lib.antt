@@ -1,0 +1,9 @@
+pub mod Answers
+pub mod Digits
+pub mod Fault
+pub mod Has
+pub mod Kinds
+pub mod Known
+pub mod Lanes
+pub mod Radii
+pub mod Table

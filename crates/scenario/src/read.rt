@@ -1,0 +1,139 @@
+//! The scenario of a tree, or its refusal.
+ghost use Rattle.std.specs.Prelude.{◌+◌, ◌*◌, ◌≤◌, length, pos, OnOk, IfOk, IfErr};
+ghost use Rattle.std.specs.List.{AllByRecursion};
+ghost use Rattle.spot_terms.specs.Decimal.{Reads};
+ghost use Rattle.spot_terms.specs.Lists.{Pairwise};
+ghost use Rattle.spot_terms.specs.Ranges.{IsInRange, IsMoverInRange, IsFixedInRange, IsProblemInRange};
+ghost use Rattle.spot_claims.specs.Paths.{at_path, statics, dynamics, problems as problem_path};
+ghost use Rattle.spot_claims.specs.Scenario.{IsScenario, IsMover, IsFixed, IsProblem};
+ghost use Rattle.spot_claims.specs.Profile.{IsAccepted, step_size_text};
+ghost use Rattle.scenario.specs.Answers.{IsWhy};
+ghost use Rattle.scenario.specs.Lanes.{AreInRange};
+
+use crate::checks::step_size_text as text_of_step;
+use crate::fault::first_fault;
+use crate::items::{fixed_of, movers_of, problems_of};
+use crate::lanes::lanes_of;
+use crate::numbers::step_in;
+use crate::table::{DYNAMICS, PROBLEMS, STATICS};
+use crate::walk::walk;
+use spot_terms::{Code, FixedList, Movers, Problems, Scenario};
+use spot_tree::Tree;
+use std::alloc::{AllocError, Global};
+use thiserror::Error;
+
+/// Why a tree has no scenario.
+#[derive(Clone, Copy, Debug, PartialEq, Eq, Error)]
+pub enum ReadFault {
+    /// A check fails: its code, and the number of the element at which it does.
+    #[error("refused: {0:?} at {1}")]
+    Refused(Code, u32),
+    /// There was no memory.
+    #[error("out of memory")]
+    Memory,
+}
+
+/// Whether no check of the profile fails. Otherwise the refusal is the failing check at the least place, and at one place
+/// the first of the element's line.
+fn accept(alloc: Global, tree: &Tree) -> Result<(), ReadFault>
+    ensures ok { OnOk result (IsAccepted tree.now) }
+    ensures err { IfErr result (λ fault. IsWhy tree.now fault) }
+{
+    match first_fault(alloc, tree) {
+        Ok(None) => Ok(()),
+        Ok(Some(fault)) => Err(ReadFault::Refused(fault.code, fault.place)),
+        Err(_) => Err(ReadFault::Memory),
+    }
+}
+
+/// The ticks of a step.
+fn step_of(tree: &Tree) -> u32
+    requires { IsAccepted tree.now }
+    ensures reads { Reads 6 (step_size_text tree.now) (pos (1000 * result)) }
+    ensures low { 1 ≤ result }
+    ensures high { result ≤ 1000 }
+{
+    match step_in(text_of_step(tree)) {
+        Some(ticks) => ticks,
+        None => unreachable!(),
+    }
+}
+
+/// The dynamic obstacles.
+fn movers_in(alloc: Global, tree: &Tree) -> Result<Movers, AllocError>
+    requires { IsAccepted tree.now }
+    ensures are { IfOk result (λ movers. Pairwise (IsMover tree.now) (at_path tree.now dynamics) movers) }
+    ensures within { IfOk result (λ movers. AllByRecursion IsMoverInRange movers) }
+{
+    prove!(0 < tree.len());
+    let elements = walk(alloc, tree, DYNAMICS, &[0])?;
+    Ok(Movers::from_vec(movers_of(alloc, tree, &elements)?))
+}
+
+/// The static obstacles.
+fn fixed_in(alloc: Global, tree: &Tree) -> Result<FixedList, AllocError>
+    requires { IsAccepted tree.now }
+    ensures are { IfOk result (λ fixed. Pairwise (IsFixed tree.now) (at_path tree.now statics) fixed) }
+    ensures within { IfOk result (λ fixed. AllByRecursion IsFixedInRange fixed) }
+{
+    prove!(0 < tree.len());
+    let elements = walk(alloc, tree, STATICS, &[0])?;
+    Ok(FixedList::from_vec(fixed_of(alloc, tree, &elements)?))
+}
+
+/// The planning problems.
+fn problems_in(alloc: Global, tree: &Tree) -> Result<Problems, AllocError>
+    requires { IsAccepted tree.now }
+    ensures are { IfOk result (λ problems. Pairwise (IsProblem tree.now) (at_path tree.now problem_path) problems) }
+    ensures within { IfOk result (λ problems. AllByRecursion IsProblemInRange problems) }
+{
+    prove!(0 < tree.len());
+    let elements = walk(alloc, tree, PROBLEMS, &[0])?;
+    Ok(Problems::from_vec(problems_of(alloc, tree, &elements)?))
+}
+
+/// There are at most 4,096 obstacles.
+fn few_obstacles(tree: &Tree)
+    requires { IsAccepted tree.now }
+    ensures { length (at_path tree.now dynamics) + length (at_path tree.now statics) ≤ 4096 }
+{
+    prove!(0 < tree.len());
+    let _children = tree.children(0);
+}
+
+/// The scenario of an accepted tree.
+fn values_of(alloc: Global, tree: &Tree) -> Result<Scenario, AllocError>
+    requires { IsAccepted tree.now }
+    ensures is { IfOk result (λ s. IsScenario tree.now s) }
+    ensures in_range { IfOk result (λ s. IsInRange s) }
+    ensures lanes { IfOk result (λ s. AreInRange s.lanelets.entries) }
+{
+    few_obstacles(tree);
+    Ok(Scenario {
+        step: step_of(tree),
+        lanelets: lanes_of(alloc, tree)?,
+        movers: movers_in(alloc, tree)?,
+        fixed: fixed_in(alloc, tree)?,
+        problems: problems_in(alloc, tree)?,
+    })
+}
+
+/// The scenario of a tree, where no check of the profile fails. Otherwise the refusal is the failing check at the least
+/// place, and at one place the first of the element's line.
+///
+/// The step is 1 to 1,000 ticks. Positions are at most 10^13 µm in size, radii at most 250,000,000 µm, speeds at most
+/// 200,000 mm/s and angles at most 7,000,000 µrad in size, times at most 1,000,000 steps. There are at most 4,096
+/// obstacles. The two bounds of a lanelet have as many points, at least two. References are kept as they stand, but for
+/// those that are no ids.
+pub fn read_scenario(alloc: Global, tree: &Tree) -> Result<Scenario, ReadFault>
+    ensures ok { IfOk result (λ s. IsScenario tree.now s) }
+    ensures in_range { IfOk result (λ s. IsInRange s) }
+    ensures lanes { IfOk result (λ s. AreInRange s.lanelets.entries) }
+    ensures err { IfErr result (λ fault. IsWhy tree.now fault) }
+{
+    accept(alloc, tree)?;
+    match values_of(alloc, tree) {
+        Ok(scenario) => Ok(scenario),
+        Err(_) => Err(ReadFault::Memory),
+    }
+}

@@ -1,0 +1,114 @@
+//! The numbers and points of an accepted tree.
+ghost use Rattle.std.specs.Prelude.{◌≡◌, ◌<◌, ◌≤◌, length, pos, codes};
+ghost use Rattle.spot_terms.specs.Whole.{Within, SizeAtMost};
+ghost use Rattle.spot_terms.specs.Decimal.{Reads};
+ghost use Rattle.spot_claims.specs.Profile.{angle, speed, step_number};
+ghost use Rattle.spot_claims.specs.Radii.{Holds, HoldsPt};
+ghost use Rattle.spot_claims.specs.Scenario.{HoldsExact, HoldsPosition};
+ghost use Rattle.scenario.specs.Table.{number_of};
+ghost use Rattle.scenario.specs.Has.{IsGood, HasNumber, HasPoint, HasExact, HasPosition};
+
+use crate::table::{ANGLE_RANGE, COORDINATE_RANGE, Number, SPEED_RANGE, TIME_RANGE};
+use spot_decimal::read_decimal;
+use spot_terms::Pt;
+use spot_tree::Tree;
+
+/// The number that a text says, which is one in its range.
+fn number_in(text: &str, number: &Number) -> i64
+    requires { IsGood (number_of number.now) text.now }
+    ensures reads { Reads (number_of number.now).places text.now result }
+    ensures within { Within number.now.least number.now.most result }
+{
+    match read_decimal(text, number.unit.places()) {
+        Ok(reading) => reading as i64,
+        Err(_) => unreachable!(),
+    }
+}
+
+/// The number in the first child of a name.
+pub(crate) fn number_at(tree: &Tree, e: u32, name: &str, number: &Number) -> i64
+    requires inside { e < length tree.now }
+    requires has { HasNumber tree.now e name.now (number_of number.now) }
+    ensures holds { Holds tree.now e name.now (number_of number.now).places result }
+    ensures within { Within number.now.least number.now.most result }
+{
+    match tree.child(e, name) {
+        Some(child) => number_in(tree.text(child), number),
+        None => unreachable!(),
+    }
+}
+
+/// The point in the children `x` and `y`.
+pub(crate) fn point_at(tree: &Tree, e: u32, number: &Number) -> Pt
+    requires inside { e < length tree.now }
+    requires micro { (number_of number.now).places ≡ 6 }
+    requires has { HasPoint tree.now e (number_of number.now) }
+    ensures holds { HoldsPt tree.now e result }
+    ensures x_within { Within number.now.least number.now.most result.x }
+    ensures y_within { Within number.now.least number.now.most result.y }
+{
+    Pt {
+        x: number_at(tree, e, "x", number),
+        y: number_at(tree, e, "y", number),
+    }
+}
+
+/// The number in `exact` in the first child of a name.
+fn exact_at(tree: &Tree, e: u32, name: &str, number: &Number) -> i64
+    requires inside { e < length tree.now }
+    requires has { HasExact tree.now e name.now (number_of number.now) }
+    ensures holds { HoldsExact tree.now e name.now (number_of number.now).places result }
+    ensures within { Within number.now.least number.now.most result }
+{
+    match tree.child(e, name) {
+        Some(child) => number_at(tree, child, "exact", number),
+        None => unreachable!(),
+    }
+}
+
+/// The point of the position of a state.
+pub(crate) fn position_at(tree: &Tree, e: u32) -> Pt
+    requires inside { e < length tree.now }
+    requires has { HasPosition tree.now e }
+    ensures holds { HoldsPosition tree.now e result.x result.y }
+    ensures x_within { SizeAtMost 10_000_000_000_000 result.x }
+    ensures y_within { SizeAtMost 10_000_000_000_000 result.y }
+{
+    let Some(position) = tree.child(e, "position") else {
+        unreachable!()
+    };
+    match tree.child(position, "point") {
+        Some(point) => point_at(tree, point, &COORDINATE_RANGE),
+        None => unreachable!(),
+    }
+}
+
+/// The time of a state, in steps.
+pub(crate) fn time_at(tree: &Tree, e: u32) -> u32
+    requires inside { e < length tree.now }
+    requires has { HasExact tree.now e (codes "time") step_number }
+    ensures holds { HoldsExact tree.now e (codes "time") 0 (pos result) }
+    ensures within { result ≤ 1_000_000 }
+{
+    exact_at(tree, e, "time", &TIME_RANGE) as u32
+}
+
+/// The speed of a state, in millimetres a second.
+pub(crate) fn speed_at(tree: &Tree, e: u32) -> i64
+    requires inside { e < length tree.now }
+    requires has { HasExact tree.now e (codes "velocity") speed }
+    ensures holds { HoldsExact tree.now e (codes "velocity") 3 result }
+    ensures within { SizeAtMost 200_000 result }
+{
+    exact_at(tree, e, "velocity", &SPEED_RANGE)
+}
+
+/// The angle of a state, in millionths of a radian.
+pub(crate) fn angle_at(tree: &Tree, e: u32) -> i64
+    requires inside { e < length tree.now }
+    requires has { HasExact tree.now e (codes "orientation") angle }
+    ensures holds { HoldsExact tree.now e (codes "orientation") 6 result }
+    ensures within { SizeAtMost 7_000_000 result }
+{
+    exact_at(tree, e, "orientation", &ANGLE_RANGE)
+}
