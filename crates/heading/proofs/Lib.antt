@@ -1,0 +1,7 @@
+mod Bounds
+pub mod Boxes
+mod Covers
+mod Polynomials
+pub mod Speeds
+mod Sums
+mod Terms
