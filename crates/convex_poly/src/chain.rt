@@ -1,0 +1,49 @@
+//! One side of a hull: a chain of points that turns left.
+ghost use Rattle.std.specs.Prelude.{◌≡◌, ◌<◌, ◌≤◌, ◌+◌, ◌-ℤ◌, ◌↔◌, ℤ, pos, List, [], ◌∷◌, ◌++◌, IsTrue, length};
+ghost use Rattle.std.specs.List.{AllByRecursion};
+ghost use Rattle.arrayvec.specs.ArrayVec.{array_vec_len};
+ghost use Rattle.convex_poly.specs.Chains.{HasDent, IsChain, KeepsFront, Rising, Toward};
+ghost use Rattle.convex_poly.specs.Polygons.{IsPosition};
+ghost use Rattle.convex_poly.specs.Turns.{TurnsLeft};
+
+use crate::turns::cross;
+use arrayvec::ArrayVec;
+use spot_terms::Pt;
+
+/// Whether the last two points of the chain and `next` don't turn left.
+fn has_dent(chain: &[Pt], next: &Pt) -> bool
+    requires positions { AllByRecursion IsPosition chain.now }
+    requires next_in { IsPosition next.now }
+    ensures { IsTrue result ↔ HasDent chain.now next.now }
+{
+    let n = chain.len();
+    n >= 2 && cross(&chain[n - 2], &chain[n - 1], next) <= 0
+}
+
+/// Adds a point that follows all others, and drops the points that it leaves inside.
+fn extend(chain: &mut ArrayVec<Pt, 64>, next: &Pt)
+    requires room { array_vec_len chain.old < 64 }
+    requires positions { AllByRecursion IsPosition chain.old.items }
+    requires next_in { IsPosition next.now }
+    ensures front { KeepsFront chain.old.items next.now chain.new.items }
+    ensures turns { (kx ky : ℤ) → Rising kx ky (chain.old.items ++ next.now ∷ []) → TurnsLeft chain.old.items → TurnsLeft chain.new.items }
+    ensures side { (kx ky : ℤ) → Rising kx ky (chain.old.items ++ next.now ∷ []) → AllByRecursion (Toward ky (pos 0 -ℤ kx) chain.new.items) (chain.old.items ++ next.now ∷ []) }
+{
+    while has_dent(chain.as_slice(), next) {
+        chain.pop();
+    }
+    chain.push(*next);
+}
+
+/// The chain of points whose keys rise: it turns left, and all points lie on its left side.
+pub(crate) fn chain_of(points: &[Pt]) -> ArrayVec<Pt, 64>
+    requires few { length points.now ≤ 64 }
+    requires positions { AllByRecursion IsPosition points.now }
+    ensures { (kx ky : ℤ) → Rising kx ky points.now → IsChain kx ky points.now result.items }
+{
+    let mut chain = ArrayVec::new();
+    for p in points {
+        extend(&mut chain, p);
+    }
+    chain
+}
