@@ -1,0 +1,2 @@
+-- The definitions, one module a concept.
+pub mod Origin
