@@ -1,0 +1,3 @@
+-- The definitions, one module a concept.
+pub mod Lines
+pub mod Runs
