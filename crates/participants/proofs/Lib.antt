@@ -1,0 +1,3 @@
+pub mod Octagons
+pub mod Starts
+pub mod Types

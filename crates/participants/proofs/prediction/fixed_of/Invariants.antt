@@ -1,0 +1,8 @@
+use Rattle.std.proofs.Common.{take}
+use Rattle.spot_terms.specs.Lists.{Pairwise}
+use Rattle.participants.specs.Predictions.{IsFixedOctagon}
+use Rattle.participants.proofs.prediction.fixed_of.Given as goal
+
+-- the octagons of the obstacles so far
+abbrev pub invariant-loop-f : goal.invariant-loop-f
+invariant-loop-f l = Pairwise IsFixedOctagon (take l.f-index l.s.fixed) l.fixed.items

@@ -1,0 +1,2 @@
+-- What a prediction has of a scenario.
+pub mod Predictions
