@@ -1,0 +1,2 @@
+-- What the lines are made of.
+pub mod Blanked

@@ -1,0 +1,295 @@
+//! The writers of the lines: each makes its line in a buffer, by a function of its own, and writes it whole.
+ghost use Rattle.std.specs.Prelude.{◌≡◌, ℕ, ◌+◌, ◌≤◌, length, OnOk, OnErr};
+ghost use Rattle.std.specs.Io.KnownBytes.{Appends};
+ghost use Rattle.spot_terms.specs.Causes.{HasCause, AppendsFront};
+ghost use Rattle.spot_terms.specs.Report.{line_text, mode_word, kind_word, head_line, time_line, mover_line, late_line, fixed_line, occ_line, disc_line, count_line, last_line};
+
+use crate::line_buffer::LineBuffer;
+use convex_poly::OctNumbers;
+use spot_io::{Sink, SinkFault};
+use spot_terms::{End, Mode, MoverLine, Pt};
+
+/// The first line: which report it is.
+///
+/// Answers `SinkFault` only where the sink's count of faults rose in this call; then a front of the line was appended.
+pub fn write_head<K: Sink>(sink: &mut K, mode: Mode) -> Result<(), SinkFault>
+    requires { K.takes sink.old (length (line_text (head_line mode))) }
+    ensures ok { OnOk result (Appends (K.written sink.old) (K.written sink.new)
+        (line_text (head_line mode))) }
+    ensures err { OnErr result (AppendsFront (K.written sink.old) (K.written sink.new)
+        (line_text (head_line mode))) }
+    ensures room { OnOk result ((more : ℕ)
+        → K.takes sink.old (length (line_text (head_line mode)) + more) → K.takes sink.new more) }
+    ensures cause { HasCause (K.faults sink.old) (K.faults sink.new) result }
+{
+    let mut line = LineBuffer::new();
+    put_head(&mut line, mode);
+    line.write(sink)
+}
+
+fn put_head(line: &mut LineBuffer, mode: Mode)
+    ensures { line.new ≡ line_text (head_line mode) }
+{
+    line.start("spot");
+    line.word("1");
+    line.word(word_of_mode(mode));
+    line.end();
+}
+
+/// The line of times: the milliseconds of a step, and the number of steps.
+///
+/// Answers `SinkFault` only where the sink's count of faults rose in this call; then a front of the line was appended.
+pub fn write_time<K: Sink>(sink: &mut K, k: u32, steps: u32) -> Result<(), SinkFault>
+    requires { K.takes sink.old (length (line_text (time_line k steps))) }
+    ensures ok { OnOk result (Appends (K.written sink.old) (K.written sink.new)
+        (line_text (time_line k steps))) }
+    ensures err { OnErr result (AppendsFront (K.written sink.old) (K.written sink.new)
+        (line_text (time_line k steps))) }
+    ensures room { OnOk result ((more : ℕ)
+        → K.takes sink.old (length (line_text (time_line k steps)) + more) → K.takes sink.new more) }
+    ensures cause { HasCause (K.faults sink.old) (K.faults sink.new) result }
+{
+    let mut line = LineBuffer::new();
+    put_time(&mut line, k, steps);
+    line.write(sink)
+}
+
+fn put_time(line: &mut LineBuffer, k: u32, steps: u32)
+    ensures { line.new ≡ line_text (time_line k steps) }
+{
+    line.start("time");
+    line.number(k);
+    line.number(steps);
+    line.end();
+}
+
+/// The line of a predicted participant: its id; `lane` where it follows lanes, else `free`; its greatest acceleration in
+/// m/s² and speed in mm/s; its start speed in mm/s; the radius of its body in µm; its start position in µm; and its box of
+/// start velocities in mm/s.
+///
+/// Answers `SinkFault` only where the sink's count of faults rose in this call; then a front of the line was appended.
+pub fn write_mover<K: Sink>(sink: &mut K, m: &MoverLine) -> Result<(), SinkFault>
+    requires { K.takes sink.old (length (line_text (mover_line m.now))) }
+    ensures ok { OnOk result (Appends (K.written sink.old) (K.written sink.new)
+        (line_text (mover_line m.now))) }
+    ensures err { OnErr result (AppendsFront (K.written sink.old) (K.written sink.new)
+        (line_text (mover_line m.now))) }
+    ensures room { OnOk result ((more : ℕ)
+        → K.takes sink.old (length (line_text (mover_line m.now)) + more) → K.takes sink.new more) }
+    ensures cause { HasCause (K.faults sink.old) (K.faults sink.new) result }
+{
+    let mut line = LineBuffer::new();
+    put_mover(&mut line, m);
+    line.write(sink)
+}
+
+fn put_mover(line: &mut LineBuffer, m: &MoverLine)
+    ensures { line.new ≡ line_text (mover_line m.now) }
+{
+    line.start("mover");
+    line.number(m.id);
+    line.word(word_of_kind(m.lane));
+    line.number(m.a);
+    line.number(m.v);
+    line.number(m.s);
+    line.number(m.r);
+    line.point(m.p);
+    line.velocities(m.b);
+    line.end();
+}
+
+/// The line of a participant that isn't predicted: its id, and its initial time, which isn't 0, in steps.
+///
+/// Answers `SinkFault` only where the sink's count of faults rose in this call; then a front of the line was appended.
+pub fn write_late<K: Sink>(sink: &mut K, id: u32, time: u32) -> Result<(), SinkFault>
+    requires { K.takes sink.old (length (line_text (late_line id time))) }
+    ensures ok { OnOk result (Appends (K.written sink.old) (K.written sink.new)
+        (line_text (late_line id time))) }
+    ensures err { OnErr result (AppendsFront (K.written sink.old) (K.written sink.new)
+        (line_text (late_line id time))) }
+    ensures room { OnOk result ((more : ℕ)
+        → K.takes sink.old (length (line_text (late_line id time)) + more) → K.takes sink.new more) }
+    ensures cause { HasCause (K.faults sink.old) (K.faults sink.new) result }
+{
+    let mut line = LineBuffer::new();
+    put_late(&mut line, id, time);
+    line.write(sink)
+}
+
+fn put_late(line: &mut LineBuffer, id: u32, time: u32)
+    ensures { line.new ≡ line_text (late_line id time) }
+{
+    line.start("late");
+    line.number(id);
+    line.number(time);
+    line.end();
+}
+
+/// The line of a static obstacle: its id, and the eight numbers of the octagon that it occupies, in µm.
+///
+/// Answers `SinkFault` only where the sink's count of faults rose in this call; then a front of the line was appended.
+pub fn write_fixed<K: Sink>(sink: &mut K, id: u32, n: &OctNumbers) -> Result<(), SinkFault>
+    requires { K.takes sink.old (length (line_text (fixed_line id n.now.n))) }
+    ensures ok { OnOk result (Appends (K.written sink.old) (K.written sink.new)
+        (line_text (fixed_line id n.now.n))) }
+    ensures err { OnErr result (AppendsFront (K.written sink.old) (K.written sink.new)
+        (line_text (fixed_line id n.now.n))) }
+    ensures room { OnOk result ((more : ℕ)
+        → K.takes sink.old (length (line_text (fixed_line id n.now.n)) + more) → K.takes sink.new more) }
+    ensures cause { HasCause (K.faults sink.old) (K.faults sink.new) result }
+{
+    let mut line = LineBuffer::new();
+    put_fixed(&mut line, id, n);
+    line.write(sink)
+}
+
+fn put_fixed(line: &mut LineBuffer, id: u32, body: &OctNumbers)
+    ensures { line.new ≡ line_text (fixed_line id body.now.n) }
+{
+    line.start("fixed");
+    line.number(id);
+    line.numbers(&body.n);
+    line.end();
+}
+
+/// The line of an occupancy: a participant's id, the number of the interval, counted from 0, and the eight numbers of the
+/// octagon that holds it in that interval, in µm.
+///
+/// Answers `SinkFault` only where the sink's count of faults rose in this call; then a front of the line was appended.
+pub fn write_occ<K: Sink>(
+    sink: &mut K,
+    id: u32,
+    interval: u32,
+    n: &OctNumbers,
+) -> Result<(), SinkFault>
+    requires { K.takes sink.old (length (line_text (occ_line id interval n.now.n))) }
+    ensures ok { OnOk result (Appends (K.written sink.old) (K.written sink.new)
+        (line_text (occ_line id interval n.now.n))) }
+    ensures err { OnErr result (AppendsFront (K.written sink.old) (K.written sink.new)
+        (line_text (occ_line id interval n.now.n))) }
+    ensures room { OnOk result ((more : ℕ)
+        → K.takes sink.old (length (line_text (occ_line id interval n.now.n)) + more) → K.takes sink.new more) }
+    ensures cause { HasCause (K.faults sink.old) (K.faults sink.new) result }
+{
+    let mut line = LineBuffer::new();
+    put_occ(&mut line, id, interval, n);
+    line.write(sink)
+}
+
+fn put_occ(line: &mut LineBuffer, id: u32, interval: u32, reached: &OctNumbers)
+    ensures { line.new ≡ line_text (occ_line id interval reached.now.n) }
+{
+    line.start("occ");
+    line.number(id);
+    line.number(interval);
+    line.numbers(&reached.n);
+    line.end();
+}
+
+/// The line of a recorded disc: its step, its obstacle's id, and its centre and its radius in µm.
+///
+/// Answers `SinkFault` only where the sink's count of faults rose in this call; then a front of the line was appended.
+pub fn write_disc<K: Sink>(sink: &mut K, step: u32, id: u32, p: Pt, r: u64) -> Result<(), SinkFault>
+    requires { K.takes sink.old (length (line_text (disc_line step id p r))) }
+    ensures ok { OnOk result (Appends (K.written sink.old) (K.written sink.new)
+        (line_text (disc_line step id p r))) }
+    ensures err { OnErr result (AppendsFront (K.written sink.old) (K.written sink.new)
+        (line_text (disc_line step id p r))) }
+    ensures room { OnOk result ((more : ℕ)
+        → K.takes sink.old (length (line_text (disc_line step id p r)) + more) → K.takes sink.new more) }
+    ensures cause { HasCause (K.faults sink.old) (K.faults sink.new) result }
+{
+    let mut line = LineBuffer::new();
+    put_disc(&mut line, step, id, p, r);
+    line.write(sink)
+}
+
+fn put_disc(line: &mut LineBuffer, step: u32, id: u32, p: Pt, r: u64)
+    ensures { line.new ≡ line_text (disc_line step id p r) }
+{
+    line.start("disc");
+    line.number(step);
+    line.number(id);
+    line.point(p);
+    line.number(r);
+    line.end();
+}
+
+/// The line of a step's count: the step, and how many base sets it has.
+///
+/// Answers `SinkFault` only where the sink's count of faults rose in this call; then a front of the line was appended.
+pub fn write_count<K: Sink>(sink: &mut K, step: u32, sets: u64) -> Result<(), SinkFault>
+    requires { K.takes sink.old (length (line_text (count_line step sets))) }
+    ensures ok { OnOk result (Appends (K.written sink.old) (K.written sink.new)
+        (line_text (count_line step sets))) }
+    ensures err { OnErr result (AppendsFront (K.written sink.old) (K.written sink.new)
+        (line_text (count_line step sets))) }
+    ensures room { OnOk result ((more : ℕ)
+        → K.takes sink.old (length (line_text (count_line step sets)) + more) → K.takes sink.new more) }
+    ensures cause { HasCause (K.faults sink.old) (K.faults sink.new) result }
+{
+    let mut line = LineBuffer::new();
+    put_count(&mut line, step, sets);
+    line.write(sink)
+}
+
+fn put_count(line: &mut LineBuffer, step: u32, sets: u64)
+    ensures { line.new ≡ line_text (count_line step sets) }
+{
+    line.start("count");
+    line.number(step);
+    line.number(sets);
+    line.end();
+}
+
+/// The last line: how the report ends.
+///
+/// Answers `SinkFault` only where the sink's count of faults rose in this call; then a front of the line was appended.
+pub fn write_end<K: Sink>(sink: &mut K, e: End) -> Result<(), SinkFault>
+    requires { K.takes sink.old (length (line_text (last_line e))) }
+    ensures ok { OnOk result (Appends (K.written sink.old) (K.written sink.new)
+        (line_text (last_line e))) }
+    ensures err { OnErr result (AppendsFront (K.written sink.old) (K.written sink.new)
+        (line_text (last_line e))) }
+    ensures room { OnOk result ((more : ℕ)
+        → K.takes sink.old (length (line_text (last_line e)) + more) → K.takes sink.new more) }
+    ensures cause { HasCause (K.faults sink.old) (K.faults sink.new) result }
+{
+    let mut line = LineBuffer::new();
+    put_end(&mut line, e);
+    line.write(sink)
+}
+
+fn put_end(line: &mut LineBuffer, e: End)
+    ensures { line.new ≡ line_text (last_line e) }
+{
+    match e {
+        End::Done => line.start("done"),
+        End::Open => line.start("open"),
+        End::Empty(step) => {
+            line.start("empty");
+            line.number(step);
+        }
+    }
+    line.end();
+}
+
+// The word that names the report.
+fn word_of_mode(mode: Mode) -> &'static str
+    ensures word { result.now ≡ mode_word mode }
+    ensures short { length result.now ≤ 7 }
+{
+    match mode {
+        Mode::Predict => "predict",
+        Mode::Area => "area",
+        Mode::Replay => "replay",
+    }
+}
+
+// The word that says whether a participant follows lanes.
+fn word_of_kind(lane: bool) -> &'static str
+    ensures word { result.now ≡ kind_word lane }
+    ensures short { length result.now ≤ 4 }
+{
+    if lane { "lane" } else { "free" }
+}
