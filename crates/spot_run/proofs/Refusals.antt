@@ -1,0 +1,100 @@
+-- Of a tree: a check's code, and what loading says of it.
+use Rattle.std.proofs.Common.{◌≡◌, ◌∙◌, ℕ, zero, suc, ◌≤◌, List, [], ◌∷◌, length, Option, Some, None, Result, Ok, Err, refl, sym, subst}
+use Rattle.std.specs.Prelude.{IfOk, IfErr}
+use Rattle.std.specs.List.{AllByRecursion}
+use Rattle.spot_terms.specs.Lists.{At, Pairwise}
+use Rattle.spot_terms.proofs.ListLemmas.{all_included}
+use Rattle.spot_terms.specs.declared.scenario.RawLane.{RawLane}
+use Rattle.spot_terms.specs.declared.scenario.Scenario.{Scenario}
+use Rattle.spot_terms.specs.declared.status.Code.{Code}
+use Rattle.spot_terms.specs.declared.status.Code.TheVariants.{NotJson, NotTree, NotYet}
+use Rattle.spot_terms.specs.declared.status.Status.{Status}
+use Rattle.spot_terms.specs.declared.status.Status.TheVariants.{Refused, Memory}
+use Rattle.spot_claims.specs.Tree.{Element, IsTreeOf}
+use Rattle.spot_claims.specs.Paths.{at_path, lanelets}
+use Rattle.spot_claims.specs.Scenario.{IsLane, IsScenario}
+use Rattle.spot_claims.specs.Profile.{Line, Check, code_of, profile, IsRefused}
+use Rattle.spot_claims.specs.Answers.{IsBuilt, IsOfCheck, most_bytes}
+use Rattle.std.specs.declared.vec.Vec.{Vec}
+use Rattle.std.specs.declared.alloc.Global.{Global}
+use Rattle.spot_io.specs.Reads.{ReadsAll}
+use Rattle.spot_run.specs.Loads.{IsReadWhole, Loads, IsLoadFault, IsFree, HasNone}
+
+-- ---- the codes of checks
+
+abbrev pub HasCodes : Line → Type 0
+HasCodes row = AllByRecursion (λ check. IsOfCheck (code_of check)) row.checks
+
+codes_of_profile : AllByRecursion HasCodes profile
+codes_of_profile = ((tt, (tt, (tt, (tt, (tt, (tt, tt)))))), ((tt, (tt, (tt, (tt, tt)))), ((tt, tt), ((tt, (tt, (tt, (tt, tt)))), ((tt, tt), ((tt, tt), ((tt, tt), ((tt, tt), ((tt, tt), ((tt, tt), ((tt, tt), ((tt, tt), ((tt, tt), ((tt, tt), ((tt, tt), ((tt, tt), ((tt, (tt, (tt, tt))), ((tt, (tt, tt)), ((tt, (tt, tt)), ((tt, (tt, tt)), ((tt, (tt, tt)), ((tt, (tt, tt)), ((tt, (tt, tt)), ((tt, (tt, tt)), tt))))))))))))))))))))))))
+
+at_all : (P : Check → Type 0) (checks : List Check) (j : ℕ) (check : Check) → AllByRecursion P checks → At checks j check → P check
+at_all P [] j check all here = absurd here
+at_all P (c ∷ checks) zero check all here = subst P (sym here) all.0
+at_all P (c ∷ checks) (suc j) check all here = at_all P checks j check all.1 here
+
+pub refused_code : (tree : List Element) (place : ℕ) (code : Code) → IsRefused tree place code → IsOfCheck code
+refused_code tree place code refused =
+    let fails = refused.fails in
+    subst IsOfCheck (sym fails.code_is) (at_all (λ check. IsOfCheck (code_of check)) fails.row.checks refused.number fails.check (all_included HasCodes profile fails.row codes_of_profile fails.listed) fails.at)
+
+none_of : (tree : List Element) (place : ℕ) (code : Code) → IsOfCheck code → IsRefused tree place code → HasNone tree (Refused code place)
+none_of tree place NotJson k h = absurd k
+none_of tree place NotTree k h = absurd k
+none_of tree place NotYet k h = absurd k
+none_of tree place code k h = (k, h)
+
+pub refused_none : (tree : List Element) (place : ℕ) (code : Code) → IsRefused tree place code → HasNone tree (Refused code place)
+refused_none tree place code h = none_of tree place code (refused_code tree place code h) h
+
+-- ---- lanelets
+
+pub no_lanelet : (tree : List Element) (s : Scenario) → IsScenario tree s → length s.lanelets.entries ≡ 0 → at_path tree lanelets ≡ []
+no_lanelet tree s is none = empty (at_path tree lanelets) s.lanelets.entries is.lanelets none
+  where
+    empty : (es : List ℕ) (ls : List (ℕ × RawLane)) → Pairwise (IsLane tree) es ls → length ls ≡ 0 → es ≡ []
+    empty [] ls h e = refl
+    empty (x ∷ es) [] h e = absurd h
+    empty (x ∷ es) (l ∷ ls) h e = cc
+
+pub some_lanelet : (tree : List Element) (s : Scenario) → IsScenario tree s → (length s.lanelets.entries ≡ 0 → ⊥) → at_path tree lanelets ≡ [] → ⊥
+some_lanelet tree s is some none = some (full (at_path tree lanelets) s.lanelets.entries is.lanelets none)
+  where
+    full : (es : List ℕ) (ls : List (ℕ × RawLane)) → Pairwise (IsLane tree) es ls → es ≡ [] → length ls ≡ 0
+    full [] [] h e = refl
+    full [] (l ∷ ls) h e = absurd h
+    full (x ∷ es) ls h e = cc
+
+-- ---- loading
+
+pub loads_none : (bytes : List ℕ) (left : Option (List ℕ)) (tree : List Element) (status : Status) → IsReadWhole bytes left → IsTreeOf bytes tree → HasNone tree status → Loads bytes left (Err status)
+loads_none bytes left tree Memory whole tree_is h = tt
+loads_none bytes left tree (Refused NotJson place) whole tree_is h = absurd h
+loads_none bytes left tree (Refused NotTree place) whole tree_is h = absurd h
+loads_none bytes left tree (Refused NotYet place) whole tree_is h = (whole, (tree, tree_is, h.1, h.2))
+loads_none bytes left tree (Refused code place) whole tree_is h = (whole, (tree, tree_is, h.1))
+loads_none bytes left tree status whole tree_is h = absurd h
+
+pub none_fault : (tree : List Element) (status : Status) → HasNone tree status → IsLoadFault status
+none_fault tree Memory h = tt
+none_fault tree (Refused NotJson place) h = absurd h
+none_fault tree (Refused NotTree place) h = absurd h
+none_fault tree (Refused NotYet place) h = h.0
+none_fault tree (Refused code place) h = h.0
+none_fault tree status h = absurd h
+
+pub built_of : (bytes : List ℕ) (tree : List Element) (s : Scenario) → IsTreeOf bytes tree → IsFree tree s → IsBuilt bytes s
+built_of bytes tree s tree_is free = record { tree = tree; tree_is = tree_is; scenario = free.0; free = free.1 }
+
+pub loads_all : (bytes : List ℕ) (left : Option (List ℕ)) (tree : List Element) (result : Result Scenario Status) → IsReadWhole bytes left → IsTreeOf bytes tree → IfOk result (λ s. IsFree tree s) → IfErr result (λ status. HasNone tree status) → Loads bytes left result
+loads_all bytes left tree (Ok s) whole tree_is free none = (whole, built_of bytes tree s tree_is free)
+loads_all bytes left tree (Err status) whole tree_is free none = loads_none bytes left tree status whole tree_is none
+
+-- the told bytes were read whole, and are those of the tree
+pub read_whole : (told left : Option (List ℕ)) (v : Vec ℕ Global) (bytes : List ℕ) → told ≡ Some bytes → length v.items ≤ most_bytes → ReadsAll told left (Ok v) → IsReadWhole bytes left
+read_whole None left v bytes e few reads = cc
+read_whole (Some all) left v bytes e few reads = let same : all ≡ bytes = cc in (subst (λ (b : List ℕ). length b ≤ most_bytes) (reads.0 ∙ same) few, reads.1)
+
+pub read_bytes : (told left : Option (List ℕ)) (v : Vec ℕ Global) (bytes : List ℕ) (tree : List Element) → told ≡ Some bytes → ReadsAll told left (Ok v) → IsTreeOf v.items tree → IsTreeOf bytes tree
+read_bytes None left v bytes tree e reads is = cc
+read_bytes (Some all) left v bytes tree e reads is = let same : all ≡ bytes = cc in subst (λ (b : List ℕ). IsTreeOf b tree) (reads.0 ∙ same) is

@@ -1,0 +1,338 @@
+-- What a run says, from what its parts say.
+use Rattle.std.proofs.Common.{Bool, true, false, ◌≡◌, ◌∙◌, ◌⊎◌, inl, inr, ℕ, ◌<◌, ◌≤◌, List, [], ◌++◌, length, Option, Some, None, Err, refl, sym, ap, subst, arith, append-nil}
+use Rattle.std.specs.Prelude.{IfSome, IfNone, nat_lt, nat_le, option_and_then, ◌&&◌, if◌then◌else◌}
+use Rattle.std.proofs.lemmas.Bool.Decides.{nat_tests}
+use Rattle.std.specs.Io.KnownBytes.{Appends}
+use Rattle.std.proofs.lemmas.List.{append_cancel_left}
+use Rattle.spot_terms.specs.Lists.{Includes}
+use Rattle.spot_terms.specs.Ranges.{IsInRange}
+use Rattle.spot_terms.specs.Report.{Line}
+use Rattle.spot_terms.specs.declared.command.Command.{Command}
+use Rattle.spot_terms.specs.declared.command.Task.TheVariants.{Predict}
+use Rattle.spot_terms.specs.declared.scenario.Scenario.{Scenario}
+use Rattle.spot_terms.specs.declared.status.Code.{Code}
+use Rattle.spot_terms.specs.declared.status.Code.TheVariants.{NotJson, NotTree, NotYet}
+use Rattle.spot_terms.specs.declared.status.Which.TheVariants.{TooLong}
+use Rattle.spot_terms.specs.declared.status.Status.{Status}
+use Rattle.spot_terms.specs.declared.status.Status.TheVariants.{Open, Empty, BadWords, Refused, Limit, ReadFault, WriteFault, Memory}
+use Rattle.spot_terms.proofs.ReportText.{texts_tell}
+use Rattle.spot_tree.proofs.Readings.{one_tree, tree_is_json, tree_has_no_fault}
+use Rattle.scenario.proofs.Unique.{scenario_is_one}
+use Rattle.spot_claims.specs.Tree.{Element, IsTreeOf}
+use Rattle.spot_claims.specs.Paths.{at_path, lanelets}
+use Rattle.spot_claims.specs.Profile.{IsAccepted}
+use Rattle.spot_claims.specs.Scenario.{IsScenario, IsScenarioOf}
+use Rattle.spot_claims.specs.Headline.{HoldsTick, CoversParticipants, Headline}
+use Rattle.spot_claims.specs.Answers.{Meaning, AreForOtherTask, AreForPredict, AreNoCommand, IsBuilt, HasLanelets, IsRefusedAt, IsOfCheck, IsRead, ExactlyWhere, BadWordsExactly, NotJsonExactly, NotTreeExactly, RefusedExactly, IsFirstCheck, NotYetExactly, TooLongExactly, IsKnown, ReadsSource, Completes, TakesReport, IsWritten, WritesReport, most_bytes}
+use Rattle.spot_words.specs.Words.{digits_of, within, number_or}
+use Rattle.spot_run.specs.Lines.{prediction_lines}
+use Rattle.spot_run.specs.Loads.{Loads, IsLoadFault}
+use Rattle.spot_run.specs.Writes.{report_of, TakesPrediction, WritesPrediction}
+use Rattle.spot_run.proofs.Covers.{prediction_covers}
+use Rattle.spot_run.proofs.Reports.{predict_report}
+use Rattle.spot_run.proofs.Fits.{fits_report}
+
+-- the words stand for one command at most
+abbrev pub IsOne : Meaning → Type 0
+IsOne Stands = (c d : Command) → Stands c → Stands d → c ≡ d
+
+-- of told bytes the scenario is known
+abbrev pub Knows : Option (List ℕ) → Scenario → Type 0
+Knows told s = (bytes : List ℕ) → told ≡ Some bytes → IsBuilt bytes s
+
+-- the command that was read, or that there is none
+pub read_some : (W : Meaning) (o : Option Command) (c : Command) → o ≡ Some c → IfSome o (λ d. W d) → W c
+read_some W o c e h = subst (λ (x : Option Command). IfSome x (λ d. W d)) e h
+
+pub read_none : (X : Type 0) (o : Option Command) → o ≡ None → IfNone o X → X
+read_none X o e h = subst (λ (x : Option Command). IfNone x X) e h
+
+-- a command has at most a hundred steps
+within_high : (low high k n : ℕ) → within low high k ≡ Some n → n ≤ high
+within_high low high k n e = grind (arith, nat_tests)
+
+in_high : (low high n : ℕ) (text : List ℕ) (b : Bool) (o : Option ℕ) → (if b then option_and_then (within low high) o else None) ≡ Some n → n ≤ high
+in_high low high n text false o e = cc
+in_high low high n text true None e = cc
+in_high low high n text true (Some k) e = within_high low high k n e
+
+pub few_steps : (o : Option (List ℕ)) (n : ℕ) → number_or 1 100 30 o ≡ Some n → n ≤ 100
+few_steps None n e = let same : 30 ≡ n = cc in omega (arith, same)
+few_steps (Some text) n e = in_high 1 100 n text (nat_lt 0 (length text) && nat_le (length text) 10) (digits_of text) e
+
+-- ---- what was appended
+
+appended : (before after : Option (List ℕ)) (old added : List ℕ) → before ≡ Some old → Appends before after added → (new : List ℕ) × (after ≡ Some new) × (new ≡ old ++ added)
+appended None after old added e h = cc
+appended (Some xs) None old added e h = absurd h
+appended (Some xs) (Some ys) old added e h = let same : xs ≡ old = cc in (ys, refl, h ∙ ap (λ (x : List ℕ). x ++ added) same)
+
+of_some : (a b : List ℕ) → Some a ≡ Some b → a ≡ b
+of_some a b e = cc
+
+same_text : (before after : Option (List ℕ)) (old text added : List ℕ) → before ≡ Some old → after ≡ Some (old ++ text) → Appends before after added → text ≡ added
+same_text before after old text added before_is after_is h =
+    let (new, is, grown) = appended before after old added before_is h in
+    append_cancel_left old text added (of_some (old ++ text) new (sym after_is ∙ is) ∙ grown)
+
+-- ---- the headline
+
+carried : (s t : Scenario) (c : Command) (lines : List Line) → s.step ≡ t.step → s.movers ≡ t.movers → s.fixed ≡ t.fixed → CoversParticipants s c lines → CoversParticipants t c lines
+carried s t c lines step movers fixed h = record {
+  movers = λ m i zero.
+      let (line, listed, is, covered) = h.movers m (subst (λ ms. Includes ms m) (sym movers) i) zero in
+      (line, listed, is, λ states motion n state at interval holds q disc. covered states motion n state at interval (subst (λ k. HoldsTick k c.steps interval n) (sym step) holds) q disc);
+  fixed = λ f i. h.fixed f (subst (λ fs. Includes fs f) (sym fixed) i);
+}
+
+claims : (bytes : List ℕ) (s t : Scenario) (c : Command) (lines : List Line) → IsBuilt bytes s → IsScenarioOf bytes t → CoversParticipants s c lines → CoversParticipants t c lines
+claims bytes s t c lines built (tree, tree_is, scenario) covers =
+    let same : built.tree ≡ tree = one_tree bytes built.tree tree built.tree_is tree_is in
+    let both = scenario_is_one tree s t (subst (λ x. IsScenario x s) same built.scenario) scenario in
+    carried s t c lines both.0 both.1 both.2 covers
+
+pub headline : (W : Meaning) (told before after : Option (List ℕ)) (status : Status) (s : Scenario) (c : Command) → IsOne W → W c → Knows told s → IsInRange s → c.steps ≤ 100
+    → WritesPrediction s c.steps before after status → Headline W told before after status
+headline W told before after Open s c one stands known range few (o, is, app) = λ bytes old text t d lines other told_is of done before_is after_is fits same task.
+    let lines_are : prediction_lines s.step c.steps s.movers o ≡ lines = texts_tell (prediction_lines s.step c.steps s.movers o) lines (fits_report s c.steps o range few is) fits
+    (sym (same_text before after old text (report_of s c.steps o) before_is after_is app) ∙ same) in
+    subst (λ x. CoversParticipants t x lines) (one c d stands other)
+    (claims bytes s t c lines (known bytes told_is) of (subst (CoversParticipants s c) lines_are (prediction_covers s c o range is)))
+headline W told before after (Empty i) s c one stands known range few h = absurd h
+headline W told before after BadWords s c one stands known range few h = absurd h
+headline W told before after (Refused code place) s c one stands known range few h = absurd h
+headline W told before after (Limit which step count) s c one stands known range few h = absurd h
+headline W told before after ReadFault s c one stands known range few h = absurd h
+headline W told before after WriteFault s c one stands known range few h = λ bytes old text t d lines other told_is of done before_is after_is fits same task. absurd done
+headline W told before after Memory s c one stands known range few h = λ bytes old text t d lines other told_is of done before_is after_is fits same task. absurd done
+
+-- ---- the report
+
+pub report : (W : Meaning) (told before after : Option (List ℕ)) (status : Status) (s : Scenario) (c : Command) → W c → c.task ≡ Predict → Knows told s → IsInRange s → c.steps ≤ 100
+    → WritesPrediction s c.steps before after status → WritesReport W told before after status
+report W told before after Open s c stands task known range few (o, is, app) = λ bytes old told_is before_is written.
+    let (new, after_is, grown) = appended before after old (report_of s c.steps o) before_is app in (
+      new,
+      after_is,
+      record {
+        command = c;
+        stands = stands;
+        task = task;
+        scenario = s;
+        built = known bytes told_is;
+        lines = prediction_lines s.step c.steps s.movers o;
+        report = predict_report s c o is;
+        fits = fits_report s c.steps o range few is;
+        front = report_of s c.steps o;
+        back = [];
+        text = append-nil (report_of s c.steps o);
+        appended = grown;
+        whole = λ done. refl;
+      },
+    )
+report W told before after (Empty i) s c stands task known range few h = absurd h
+report W told before after BadWords s c stands task known range few h = absurd h
+report W told before after (Refused code place) s c stands task known range few h = absurd h
+report W told before after (Limit which step count) s c stands task known range few h = absurd h
+report W told before after ReadFault s c stands task known range few h = absurd h
+report W told before after WriteFault s c stands task known range few (o, is, (front, back, text, app)) = λ bytes old told_is before_is written.
+    let (new, after_is, grown) = appended before after old front before_is app in (
+      new,
+      after_is,
+      record {
+        command = c;
+        stands = stands;
+        task = task;
+        scenario = s;
+        built = known bytes told_is;
+        lines = prediction_lines s.step c.steps s.movers o;
+        report = predict_report s c o is;
+        fits = fits_report s c.steps o range few is;
+        front = front;
+        back = back;
+        text = text;
+        appended = grown;
+        whole = λ done. absurd done;
+      },
+    )
+report W told before after Memory s c stands task known range few h = λ bytes old told_is before_is written. absurd written
+
+-- ---- the room in the sink
+
+pub room : (W : Meaning) (told : Option (List ℕ)) (can : ℕ → Type 0) (s : Scenario) (c : Command) (bytes : List ℕ) → TakesReport W told can → W c → c.task ≡ Predict → Knows told s → IsBuilt bytes s → TakesPrediction s c.steps can
+room W None can s c bytes takes stands task known built = λ o is. takes bytes tt c s (prediction_lines s.step c.steps s.movers o) stands task built (predict_report s c o is)
+room W (Some all) can s c bytes takes stands task known built = λ o is. takes all refl c s (prediction_lines s.step c.steps s.movers o) stands task (known all refl) (predict_report s c o is)
+
+-- ---- other tasks and other forms
+
+no_other : (W : Meaning) (c : Command) → IsOne W → W c → c.task ≡ Predict → AreForOtherTask W → ⊥
+no_other W c one stands task (d, other, not) = not (subst (λ (x : Command). x.task ≡ Predict) (one c d stands other) task)
+
+-- a tree of the same bytes is accepted too
+same_accepted : (bytes : List ℕ) (a b : List Element) → IsTreeOf bytes a → IsTreeOf bytes b → IsAccepted a → IsAccepted b
+same_accepted bytes a b h k is = subst IsAccepted (one_tree bytes a b h k) is
+
+same_free : (bytes : List ℕ) (a b : List Element) → IsTreeOf bytes a → IsTreeOf bytes b → at_path a lanelets ≡ [] → at_path b lanelets ≡ []
+same_free bytes a b h k is = subst (λ x. at_path x lanelets ≡ []) (one_tree bytes a b h k) is
+
+not_both : (bytes : List ℕ) (tree : List Element) (code : Code) (place : ℕ) → IsTreeOf bytes tree → IsAccepted tree → IsRefusedAt bytes code place → ⊥
+not_both bytes tree code place tree_is accepted (other, other_is, refused) = same_accepted bytes tree other tree_is other_is accepted place refused.number code refused.fails
+
+no_lanelets : (bytes : List ℕ) (s : Scenario) → IsBuilt bytes s → HasLanelets bytes → ⊥
+no_lanelets bytes s built (tree, tree_is, accepted, some) = some (same_free bytes built.tree tree built.tree_is tree_is built.free)
+
+not_refused : (bytes : List ℕ) (s : Scenario) (code : Code) (place : ℕ) → IsBuilt bytes s → IsRefusedAt bytes code place → ⊥
+not_refused bytes s code place built refused = not_both bytes built.tree code place built.tree_is built.scenario.accepted refused
+
+-- ---- after a report
+
+form_written : (W : Meaning) (bytes : List ℕ) (before after : Option (List ℕ)) (steps : ℕ) (status : Status) (s : Scenario) → (AreForOtherTask W → ⊥) → IsBuilt bytes s → WritesPrediction s steps before after status
+    → ExactlyWhere (AreForOtherTask W ⊎ (IsRead W bytes × HasLanelets bytes)) (Refused NotYet 0) status
+form_written W bytes before after steps status s none built h = record {
+  only = λ e. absurd (subst (WritesPrediction s steps before after) e h);
+  comes = λ cause. elim cause as (λ _. (status ≡ Refused NotYet 0) ⊎ ((status ≡ Memory) ⊎ (status ≡ ReadFault))) [
+    | inl other ↦ absurd (none other)
+    | inr form ↦ absurd (no_lanelets bytes s built form.1)
+  ];
+}
+
+pub not_yet_written : (W : Meaning) (told before after : Option (List ℕ)) (status : Status) (s : Scenario) (c : Command) → IsOne W → W c → c.task ≡ Predict → Knows told s → WritesPrediction s c.steps before after status → NotYetExactly W told status
+not_yet_written W told before after status s c one stands task known h = record {
+  task = λ other. absurd (no_other W c one stands task other);
+  lanelets = λ bytes told_is. form_written W bytes before after c.steps status s (no_other W c one stands task) (known bytes told_is) h;
+}
+
+pub complete_written : (W : Meaning) (told before after : Option (List ℕ)) (risen : Type 0) (steps : ℕ) (status : Status) (s : Scenario) → (status ≡ WriteFault → risen) → WritesPrediction s steps before after status → Completes W told risen status
+complete_written W told before after risen steps Open s cause h = λ bytes for told_is few tree tree_is accepted free none. inl refl
+complete_written W told before after risen steps (Empty i) s cause h = absurd h
+complete_written W told before after risen steps BadWords s cause h = absurd h
+complete_written W told before after risen steps (Refused code place) s cause h = absurd h
+complete_written W told before after risen steps (Limit which step count) s cause h = absurd h
+complete_written W told before after risen steps ReadFault s cause h = absurd h
+complete_written W told before after risen steps WriteFault s cause h = λ bytes for told_is few tree tree_is accepted free none. absurd (none (cause refl))
+complete_written W told before after risen steps Memory s cause h = λ bytes for told_is few tree tree_is accepted free none. inr refl
+
+pub not_written : (before after : Option (List ℕ)) (steps : ℕ) (status : Status) (s : Scenario) → WritesPrediction s steps before after status → (IsWritten status → ⊥) → status ≡ Memory
+not_written before after steps Open s h none = absurd (none tt)
+not_written before after steps WriteFault s h none = absurd (none tt)
+not_written before after steps Memory s h none = refl
+not_written before after steps status s h none = absurd h
+
+pub known_written : (before after : Option (List ℕ)) (steps : ℕ) (status : Status) (s : Scenario) → WritesPrediction s steps before after status → IsKnown status
+known_written before after steps Open s h = tt
+known_written before after steps WriteFault s h = tt
+known_written before after steps Memory s h = tt
+known_written before after steps status s h = absurd h
+
+pub bad_words_written : (W : Meaning) (before after : Option (List ℕ)) (status : Status) (s : Scenario) (c : Command) → W c → WritesPrediction s c.steps before after status → BadWordsExactly W status
+bad_words_written W before after status s c stands h = record { only = λ e. absurd (subst (WritesPrediction s c.steps before after) e h); comes = λ nothing. absurd (nothing c stands) }
+
+pub source_read_written : (W : Meaning) (told left before after : Option (List ℕ)) (steps : ℕ) (status : Status) (s : Scenario) → ((bytes : List ℕ) → told ≡ Some bytes → left ≡ Some []) → WritesPrediction s steps before after status → ReadsSource W told left status
+source_read_written W told left before after steps status s empty h = record {
+  whole = λ bytes told_is for later. empty bytes told_is;
+  limit = λ bytes step count told_is e. absurd (subst (WritesPrediction s steps before after) e h);
+}
+
+pub too_long_written : (W : Meaning) (told before after : Option (List ℕ)) (steps : ℕ) (status : Status) (s : Scenario) → ((bytes : List ℕ) → told ≡ Some bytes → length bytes ≤ most_bytes) → WritesPrediction s steps before after status → TooLongExactly W told status
+too_long_written W told before after steps status s few h = λ bytes told_is. record {
+  only = λ e. absurd (subst (WritesPrediction s steps before after) e h);
+  comes = λ cause. let many = cause.1 in let small = few bytes told_is in absurd (omega (arith, many, small));
+}
+
+pub not_json_written : (W : Meaning) (told before after : Option (List ℕ)) (steps : ℕ) (status : Status) (s : Scenario) → Knows told s → WritesPrediction s steps before after status → NotJsonExactly W told status
+not_json_written W told before after steps status s known h = λ bytes told_is. record {
+  only = λ e. absurd (subst (WritesPrediction s steps before after) e h);
+  comes = λ cause. let built = known bytes told_is in absurd (tree_is_json bytes built.tree built.tree_is cause.1);
+}
+
+pub not_tree_written : (W : Meaning) (told before after : Option (List ℕ)) (steps : ℕ) (status : Status) (s : Scenario) → Knows told s → WritesPrediction s steps before after status → NotTreeExactly W told status
+not_tree_written W told before after steps status s known h = λ bytes place told_is. record {
+  only = λ e. absurd (subst (WritesPrediction s steps before after) e h);
+  comes = λ cause. let built = known bytes told_is in absurd (tree_has_no_fault bytes built.tree place built.tree_is cause.1);
+}
+
+pub refused_written : (W : Meaning) (told before after : Option (List ℕ)) (steps : ℕ) (status : Status) (s : Scenario) → Knows told s → WritesPrediction s steps before after status → RefusedExactly W told status
+refused_written W told before after steps status s known h = λ bytes told_is. record {
+  only = λ code place of e. absurd (subst (WritesPrediction s steps before after) e h);
+  comes = λ code place cause. absurd (not_refused bytes s code place (known bytes told_is) cause.1);
+}
+
+-- ---- after a fault of loading
+
+-- a check has no code of another stage
+of_check : (code : Code) (place : ℕ) → Refused code place ≡ Refused NotYet 0 → IsOfCheck code → ⊥
+of_check code place e k = let same : code ≡ NotYet = cc in subst IsOfCheck same k
+
+form_at : (W : Meaning) (bytes : List ℕ) (left : Option (List ℕ)) (status : Status) → (AreForOtherTask W → ⊥) → AreForPredict W → Loads bytes left (Err status) → IsLoadFault status
+    → ExactlyWhere (AreForOtherTask W ⊎ (IsRead W bytes × HasLanelets bytes)) (Refused NotYet 0) status
+form_at W bytes left ReadFault none for h k = record { only = λ e. cc; comes = λ _. inr (inr refl) }
+form_at W bytes left Memory none for h k = record { only = λ e. cc; comes = λ _. inr (inl refl) }
+form_at W bytes left (Limit TooLong step count) none for h k = record { only = λ e. cc; comes = λ cause. elim cause as (λ _. (Limit TooLong step count ≡ Refused NotYet 0) ⊎ ((Limit TooLong step count ≡ Memory) ⊎ (Limit TooLong step count ≡ ReadFault))) [ inl other ↦ absurd (none other) | inr form ↦ let few = form.0.1 in let many = h.0 in absurd (omega (arith, few, many)) ] }
+form_at W bytes left (Refused NotJson place) none for h k = record { only = λ e. cc; comes = λ cause. elim cause as (λ _. (Refused NotJson place ≡ Refused NotYet 0) ⊎ ((Refused NotJson place ≡ Memory) ⊎ (Refused NotJson place ≡ ReadFault))) [ inl other ↦ absurd (none other) | inr form ↦ absurd (tree_is_json bytes form.1.0 form.1.1 h.1) ] }
+form_at W bytes left (Refused NotTree place) none for h k = record { only = λ e. cc; comes = λ cause. elim cause as (λ _. (Refused NotTree place ≡ Refused NotYet 0) ⊎ ((Refused NotTree place ≡ Memory) ⊎ (Refused NotTree place ≡ ReadFault))) [ inl other ↦ absurd (none other) | inr form ↦ absurd (tree_has_no_fault bytes form.1.0 place form.1.1 h.1) ] }
+form_at W bytes left (Refused NotYet place) none for h k = record { only = λ e. inr ((for, h.0.0), h.1); comes = λ _. inl (ap (Refused NotYet) k) }
+form_at W bytes left (Refused code place) none for h k = record { only = λ e. absurd (of_check code place e k); comes = λ cause. elim cause as (λ _. (Refused code place ≡ Refused NotYet 0) ⊎ ((Refused code place ≡ Memory) ⊎ (Refused code place ≡ ReadFault))) [ inl other ↦ absurd (none other) | inr form ↦ absurd (not_both bytes form.1.0 code place form.1.1 form.1.2 h.1) ] }
+form_at W bytes left status none for h k = absurd k
+
+pub not_yet_at : (W : Meaning) (told left : Option (List ℕ)) (status : Status) (c : Command) → IsOne W → W c → c.task ≡ Predict → ((bytes : List ℕ) → told ≡ Some bytes → Loads bytes left (Err status)) → IsLoadFault status → NotYetExactly W told status
+not_yet_at W told left status c one stands task loads fault = record {
+  task = λ other. absurd (no_other W c one stands task other);
+  lanelets = λ bytes told_is. form_at W bytes left status (no_other W c one stands task) (c, stands, task) (loads bytes told_is) fault;
+}
+
+too_long_of : (W : Meaning) (bytes : List ℕ) (left : Option (List ℕ)) (status : Status) → AreForPredict W → Loads bytes left (Err status) → IsLoadFault status → ExactlyWhere (AreForPredict W × (most_bytes < length bytes)) (Limit TooLong 0 67108865) status
+too_long_of W bytes left ReadFault for h k = record { only = λ e. cc; comes = λ _. inr (inr refl) }
+too_long_of W bytes left Memory for h k = record { only = λ e. cc; comes = λ _. inr (inl refl) }
+too_long_of W bytes left (Limit TooLong step count) for h k = record { only = λ e. (for, h.0); comes = λ _. inl (rw (k.0, k.1) refl) }
+too_long_of W bytes left (Refused NotJson place) for h k = record { only = λ e. cc; comes = λ cause. let many = cause.1 in let few = h.0.0 in absurd (omega (arith, few, many)) }
+too_long_of W bytes left (Refused NotTree place) for h k = record { only = λ e. cc; comes = λ cause. let many = cause.1 in let few = h.0.0 in absurd (omega (arith, few, many)) }
+too_long_of W bytes left (Refused NotYet place) for h k = record { only = λ e. cc; comes = λ cause. let many = cause.1 in let few = h.0.0 in absurd (omega (arith, few, many)) }
+too_long_of W bytes left (Refused code place) for h k = record { only = λ e. cc; comes = λ cause. let many = cause.1 in let few = h.0.0 in absurd (omega (arith, few, many)) }
+too_long_of W bytes left status for h k = absurd k
+
+pub too_long_at : (W : Meaning) (told left : Option (List ℕ)) (status : Status) (c : Command) → W c → c.task ≡ Predict → ((bytes : List ℕ) → told ≡ Some bytes → Loads bytes left (Err status)) → IsLoadFault status → TooLongExactly W told status
+too_long_at W told left status c stands task loads fault = λ bytes told_is. too_long_of W bytes left status (c, stands, task) (loads bytes told_is) fault
+
+complete_of : (risen : Type 0) (bytes : List ℕ) (left : Option (List ℕ)) (status : Status) → Loads bytes left (Err status) → IsLoadFault status → (status ≡ ReadFault → risen) → length bytes ≤ most_bytes
+    → (tree : List Element) → IsTreeOf bytes tree → IsAccepted tree → at_path tree lanelets ≡ [] → (risen → ⊥) → (status ≡ Open) ⊎ (status ≡ Memory)
+complete_of risen bytes left ReadFault h k rose few tree tree_is accepted free none = absurd (none (rose refl))
+complete_of risen bytes left Memory h k rose few tree tree_is accepted free none = inr refl
+complete_of risen bytes left (Limit TooLong step count) h k rose few tree tree_is accepted free none = let many = h.0 in absurd (omega (arith, few, many))
+complete_of risen bytes left (Refused NotJson place) h k rose few tree tree_is accepted free none = absurd (tree_is_json bytes tree tree_is h.1)
+complete_of risen bytes left (Refused NotTree place) h k rose few tree tree_is accepted free none = absurd (tree_has_no_fault bytes tree place tree_is h.1)
+complete_of risen bytes left (Refused NotYet place) h k rose few tree tree_is accepted free none = absurd (h.1.3 (same_free bytes tree h.1.0 tree_is h.1.1 free))
+complete_of risen bytes left (Refused code place) h k rose few tree tree_is accepted free none = absurd (not_both bytes tree code place tree_is accepted h.1)
+complete_of risen bytes left status h k rose few tree tree_is accepted free none = absurd k
+
+pub complete_at : (W : Meaning) (told left : Option (List ℕ)) (risen : Type 0) (status : Status) → ((bytes : List ℕ) → told ≡ Some bytes → Loads bytes left (Err status)) → IsLoadFault status → (status ≡ ReadFault → risen) → Completes W told risen status
+complete_at W told left risen status loads fault rose = λ bytes for told_is few tree tree_is accepted free none. complete_of risen bytes left status (loads bytes told_is) fault rose few tree tree_is accepted free none
+
+-- no completion is due where the words stand for no command
+pub complete_no_command : (W : Meaning) (told : Option (List ℕ)) (risen : Type 0) (status : Status) → AreNoCommand W → Completes W told risen status
+complete_no_command W told risen status nothing = λ bytes for told_is few tree tree_is accepted free none. absurd (nothing for.0 for.1)
+
+same_code : (a b : Code) (p q : ℕ) → Refused a p ≡ Refused b q → a ≡ b
+same_code a b p q e = cc
+
+same_place : (a b : Code) (p q : ℕ) → Refused a p ≡ Refused b q → p ≡ q
+same_place a b p q e = cc
+
+-- the refusal of a loading that answered a status
+refused_of : (W : Meaning) (bytes : List ℕ) (left : Option (List ℕ)) (status : Status) → AreForPredict W → Loads bytes left (Err status) → IsLoadFault status → IsFirstCheck W bytes status
+refused_of W bytes left ReadFault for h k = record { only = λ code place of e. cc; comes = λ code place cause. inr (inr refl) }
+refused_of W bytes left Memory for h k = record { only = λ code place of e. cc; comes = λ code place cause. inr (inl refl) }
+refused_of W bytes left (Limit TooLong step count) for h k = record { only = λ code place of e. cc; comes = λ code place cause. let few = cause.0.1 in let many = h.0 in absurd (omega (arith, few, many)) }
+refused_of W bytes left (Refused NotJson place') for h k = record { only = λ code place of e. let same : NotJson ≡ code = cc in absurd (subst IsOfCheck (sym same) of); comes = λ code place cause. absurd (tree_is_json bytes cause.1.0 cause.1.1 h.1) }
+refused_of W bytes left (Refused NotTree place') for h k = record { only = λ code place of e. let same : NotTree ≡ code = cc in absurd (subst IsOfCheck (sym same) of); comes = λ code place cause. absurd (tree_has_no_fault bytes cause.1.0 place' cause.1.1 h.1) }
+refused_of W bytes left (Refused NotYet place') for h k = record { only = λ code place of e. let same : NotYet ≡ code = cc in absurd (subst IsOfCheck (sym same) of); comes = λ code place cause. absurd (not_both bytes h.1.0 code place h.1.1 h.1.2 cause.1) }
+refused_of W bytes left (Refused answered place') for h k = record {
+  only = λ code place of e. ((for, h.0.0), subst (λ c. IsRefusedAt bytes c place) (same_code answered code place' place e) (subst (IsRefusedAt bytes answered) (same_place answered code place' place e) h.1));
+  comes = λ code place cause. inl (answered, place', refl, h.1);
+}
+refused_of W bytes left status for h k = absurd k
+
+pub refused_at : (W : Meaning) (told left : Option (List ℕ)) (status : Status) (c : Command) → W c → c.task ≡ Predict → ((bytes : List ℕ) → told ≡ Some bytes → Loads bytes left (Err status)) → IsLoadFault status → RefusedExactly W told status
+refused_at W told left status c stands task loads fault = λ bytes told_is. refused_of W bytes left status (c, stands, task) (loads bytes told_is) fault
+
+pub refused_no_command : (W : Meaning) (told : Option (List ℕ)) → AreNoCommand W → RefusedExactly W told BadWords
+refused_no_command W told nothing = λ bytes told_is. record { only = λ code place of e. cc; comes = λ code place cause. absurd (nothing cause.0.0.0 cause.0.0.1) }

@@ -1,0 +1,4 @@
+-- What the top call writes and reads.
+pub mod Lines
+pub mod Loads
+pub mod Writes

@@ -1,0 +1,39 @@
+-- The lines of a prediction.
+use Rattle.std.specs.Prelude.{ℕ, ◌+◌, ◌==◌, List, [], ◌∷◌, ◌++◌, map, flat_map, false, if◌then◌else◌}
+use Rattle.spot_terms.specs.Report.{Line, head_line, time_line, mover_line, late_line, fixed_line, occ_line, last_line}
+use Rattle.spot_terms.specs.declared.lines.Mode.TheVariants as mode
+use Rattle.spot_terms.specs.declared.lines.End.TheVariants as end
+use Rattle.spot_terms.specs.declared.lines.MoverLine.{MoverLine}
+use Rattle.spot_terms.specs.declared.scenario.Mover.{Mover}
+use Rattle.convex_poly.specs.declared.oct_numbers.OctNumbers.{OctNumbers}
+use Rattle.participants.specs.declared.participant.Participant.{Participant}
+use Rattle.participants.specs.Predictions.{Occupancies}
+
+abbrev pub line_of : Participant → MoverLine
+line_of p = record { id = p.id; lane = false; a = p.start.a; v = p.start.v; s = p.speed; r = p.start.r; p = p.start.p; b = p.start.b }
+
+-- the lines of the dynamic obstacles: of those whose initial time is 0 the participants' in their order, and else the
+-- lines of late ones
+abbrev pub obstacle_lines : List Mover → List Participant → List Line
+obstacle_lines [] ps = []
+obstacle_lines (m ∷ ms) [] = late_line m.id m.time ∷ obstacle_lines ms []
+obstacle_lines (m ∷ ms) (p ∷ ps) = if m.time == 0 then mover_line (line_of p) ∷ obstacle_lines ms ps else late_line m.id m.time ∷ obstacle_lines ms (p ∷ ps)
+
+abbrev pub octagon_line : ℕ × OctNumbers → Line
+octagon_line o = fixed_line o.0 o.1.n
+
+-- the octagons of a participant, from interval i on
+abbrev pub octagon_lines : ℕ → ℕ → List OctNumbers → List Line
+octagon_lines id i [] = []
+octagon_lines id i (o ∷ os) = occ_line id i o.n ∷ octagon_lines id (i + 1) os
+
+abbrev pub occupancy_lines : Participant → List Line
+occupancy_lines p = octagon_lines p.id 0 p.octs
+
+-- what stands between the head and the end
+abbrev pub traffic_lines : List Mover → Occupancies → List Line
+traffic_lines movers o = obstacle_lines movers o.participants ++ map octagon_line o.fixed ++ flat_map occupancy_lines o.participants
+
+-- the whole report of steps of k ticks
+abbrev pub prediction_lines : ℕ → ℕ → List Mover → Occupancies → List Line
+prediction_lines k steps movers o = head_line mode.Predict ∷ time_line k steps ∷ traffic_lines movers o ++ last_line end.Done ∷ []

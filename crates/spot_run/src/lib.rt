@@ -1,0 +1,12 @@
+//! The top call: from the words and the bytes of a scenario to the bytes of a report.
+#![tactic(auto)]
+
+mod load;
+mod report;
+mod run;
+
+pub use run::run_spot;
+pub use spot_terms::{Code, Status, Which};
+
+#[cfg(test)]
+mod tests;

@@ -1,0 +1,95 @@
+//! The top call.
+
+ghost use Rattle.std.specs.Prelude.{◌≡◌, ◌≤◌, ◌⊎◌};
+ghost use Rattle.spot_terms.specs.Causes.{Rose};
+ghost use Rattle.spot_terms.specs.Ranges.{IsInRange};
+ghost use Rattle.spot_run.specs.Writes.{TakesPrediction, WritesPrediction};
+ghost use Rattle.spot_words.specs.Words.{StandsFor};
+ghost use Rattle.spot_claims.specs.Headline.{Headline};
+ghost use Rattle.spot_claims.specs.Answers.{AreForPredict, BadWordsExactly, TooLongExactly, NotJsonExactly, NotTreeExactly, RefusedExactly, NotYetExactly, IsKnown, IsWritten, WritesReport, ReadsSource, Completes, TakesReport};
+
+use crate::load::load;
+use crate::report::write_prediction;
+use participants::predict;
+use spot_io::{Sink, Source};
+use spot_terms::{Code, Scenario, Status, Task};
+use spot_words::read_words;
+use std::alloc::Global;
+
+// Predicts a scenario and writes the report.
+fn write_report<K: Sink>(alloc: Global, scenario: &Scenario, steps: u32, sink: &mut K) -> Status
+    requires range { IsInRange scenario.now }
+    requires steps { steps ≤ 100 }
+    requires room { TakesPrediction scenario.now steps (λ n. K.takes sink.old n) }
+    ensures report { WritesPrediction scenario.now steps (K.written sink.old) (K.written sink.new) result }
+    ensures kept { result ≡ Status.Memory → sink.new ≡ sink.old }
+    ensures later { K.faults sink.old ≤ K.faults sink.new }
+    ensures cause { result ≡ Status.WriteFault → Rose (K.faults sink.old) (K.faults sink.new) }
+{
+    let Ok(prediction) = predict(alloc, scenario, steps) else {
+        return Status::Memory;
+    };
+    match write_prediction(sink, scenario, &prediction, steps) {
+        Ok(()) => Status::Open,
+        Err(_) => Status::WriteFault,
+    }
+}
+
+/// Reads a scenario and writes the report that the words ask for. The first word is the program's own name.
+///
+/// What is built so far is the mode `predict` for scenarios without lanelets; every other mode, and every scenario with a
+/// lanelet, is refused as `NotYet`. All values of the report are computed before the first byte is
+/// written, and writing takes no memory. After a refusal, a limit, a read fault or want of memory nothing was written;
+/// after a write fault a front of the report was.
+pub fn run_spot<S: Source, K: Sink>(
+    alloc: Global,
+    words: &Vec<String>,
+    source: &mut S,
+    sink: &mut K,
+) -> Status
+    // The sink can take the report.
+    requires { TakesReport (StandsFor words.now.items) (S.left source.old) (λ n. K.takes sink.old n) }
+
+    // Each admissible motion of each participant lies in what is printed for it.
+    ensures headline { Headline (StandsFor words.now.items) (S.left source.old) (K.written sink.old) (K.written sink.new) result }
+
+    // What is written is the report, or at a write fault a front of it; else nothing.
+    ensures report { WritesReport (StandsFor words.now.items) (S.left source.old) (K.written sink.old) (K.written sink.new) result }
+    ensures kept { (IsWritten result → ⊥) → sink.new ≡ sink.old }
+
+    // The source is read to its end, or not at all.
+    ensures source_read { ReadsSource (StandsFor words.now.items) (S.left source.old) (S.left source.new) result }
+    ensures source_kept { (AreForPredict (StandsFor words.now.items) → ⊥) → source.new ≡ source.old }
+
+    // The counts of faults never fall.
+    ensures source_later { S.faults source.old ≤ S.faults source.new }
+    ensures sink_later { K.faults sink.old ≤ K.faults sink.new }
+
+    // When each answer comes.
+    ensures known { IsKnown result }
+    ensures bad_words { BadWordsExactly (StandsFor words.now.items) result }
+    ensures not_yet { NotYetExactly (StandsFor words.now.items) (S.left source.old) result }
+    ensures read_fault { result ≡ Status.ReadFault → Rose (S.faults source.old) (S.faults source.new) }
+    ensures too_long { TooLongExactly (StandsFor words.now.items) (S.left source.old) result }
+    ensures not_json { NotJsonExactly (StandsFor words.now.items) (S.left source.old) result }
+    ensures not_tree { NotTreeExactly (StandsFor words.now.items) (S.left source.old) result }
+    ensures refused { RefusedExactly (StandsFor words.now.items) (S.left source.old) result }
+    ensures write_fault { result ≡ Status.WriteFault → Rose (K.faults sink.old) (K.faults sink.new) }
+
+    // Where nothing fails, the report is written.
+    ensures complete { Completes (StandsFor words.now.items) (S.left source.old)
+        (Rose (S.faults source.old) (S.faults source.new) ⊎ Rose (K.faults sink.old) (K.faults sink.new)) result }
+{
+    let command = match read_words(alloc, words) {
+        Ok(Some(command)) => command,
+        Ok(None) => return Status::BadWords,
+        Err(_) => return Status::Memory,
+    };
+    let Task::Predict = command.task else {
+        return Status::Refused(Code::NotYet, 0);
+    };
+    match load(alloc, source) {
+        Ok(scenario) => write_report(alloc, &scenario, command.steps, sink),
+        Err(status) => status,
+    }
+}

@@ -1,0 +1,96 @@
+use super::*;
+use spot_io::{MemSink, mem_sink, mem_source};
+use std::alloc::Global;
+use std::test::Fail;
+
+const CIRCLE: &[u8] =
+    br#"["commonRoad",{"commonRoadVersion":"2020a","timeStepSize":"0.1"},["dynamicObstacle",{"id":"1"},["type","car"],["shape",["circle",["radius","1"]]],["initialState",["position",["point",["x","0"],["y","0"]]],["orientation",["exact","0"]],["velocity",["exact","10"]],["time",["exact","0"]]]]]"#;
+
+const ONE_STEP: &[u8] = b"spot 1 predict
+time 100 1
+mover 1 free 8 70000 10002 1000000 0 0 9999 10001 -1 1
+occ 1 0 2040100 2469463 1040100 1414213 1000000 1414213 1040100 2469463
+done
+";
+
+const TWO_STEPS: &[u8] = b"spot 1 predict
+time 100 2
+mover 1 free 8 70000 10002 1000000 0 0 9999 10001 -1 1
+occ 1 0 2040100 2469463 1040100 1414213 1000000 1414213 1040100 2469463
+occ 1 1 3160200 3634713 1160200 469463 40100 469463 1160200 3634713
+done
+";
+
+const LANELET: &[u8] =
+    br#"["commonRoad",{"commonRoadVersion":"2020a","timeStepSize":"0.1"},["lanelet",{"id":"1"},["leftBound",["point",["x","0"],["y","4"]],["point",["x","2"],["y","4"]]],["rightBound",["point",["x","0"],["y","0"]],["point",["x","2"],["y","0"]]]]]"#;
+
+fn words(alloc: Global, line: &[&str]) -> Result<Vec<String>, Fail> {
+    let mut words = Vec::new(alloc);
+    for word in line {
+        words.push(String::from_str(alloc, word)?)?;
+    }
+    Ok(words)
+}
+
+// Runs a command line on bytes, through sources and sinks that move 16 bytes a call and fail at these calls.
+fn run(
+    alloc: Global,
+    line: &[&str],
+    bytes: &[u8],
+    read_fails: &[u64],
+    write_fails: &[u64],
+) -> Result<(Status, MemSink), Fail> {
+    let words = words(alloc, line)?;
+    let mut source = mem_source(alloc, bytes, 16, read_fails)?;
+    let mut sink = mem_sink(alloc, 1000, 16, write_fails)?;
+    let status = run_spot(alloc, &words, &mut source, &mut sink);
+    Ok((status, sink))
+}
+
+#[test]
+fn one_circle_is_predicted(rt: HostRuntime) -> Result<(), Fail> {
+    let line = ["spot", "predict", "--steps", "2"];
+    let (status, sink) = run(rt.alloc(), &line, CIRCLE, &[], &[])?;
+    assert_eq!(rt; status, Status::Open);
+    assert_eq!(rt; sink.bytes.as_slice(), TWO_STEPS);
+    Ok(())
+}
+
+#[test]
+fn a_write_fault_leaves_a_front(rt: HostRuntime) -> Result<(), Fail> {
+    let line = ["spot", "predict", "--steps", "1"];
+    let (status, sink) = run(rt.alloc(), &line, CIRCLE, &[], &[4])?;
+    assert_eq!(rt; status, Status::WriteFault);
+    assert!(rt; sink.bytes.len() <= 48);
+    assert!(rt; ONE_STEP.starts_with(sink.bytes.as_slice()));
+    Ok(())
+}
+
+#[test]
+fn a_read_fault_writes_nothing(rt: HostRuntime) -> Result<(), Fail> {
+    let line = ["spot", "predict", "--steps", "1"];
+    let (status, sink) = run(rt.alloc(), &line, CIRCLE, &[2], &[])?;
+    assert_eq!(rt; status, Status::ReadFault);
+    assert!(rt; sink.bytes.is_empty());
+    assert_eq!(rt; sink.calls, 0);
+    Ok(())
+}
+
+#[test]
+fn what_is_no_report_says_why(rt: HostRuntime) -> Result<(), Fail> {
+    let predict = ["spot", "predict"];
+    let (status, sink) = run(rt.alloc(), &predict, b"", &[], &[])?;
+    assert_eq!(rt; status, Status::Refused(Code::NotJson, 0));
+    assert!(rt; sink.bytes.is_empty());
+    let (status, _) = run(rt.alloc(), &predict, br#"["commonRoad",7]"#, &[], &[])?;
+    assert_eq!(rt; status, Status::Refused(Code::NotTree, 1));
+    let (status, _) = run(rt.alloc(), &predict, br#"["commonRoad"]"#, &[], &[])?;
+    assert_eq!(rt; status, Status::Refused(Code::Version, 0));
+    let (status, _) = run(rt.alloc(), &predict, LANELET, &[], &[])?;
+    assert_eq!(rt; status, Status::Refused(Code::NotYet, 0));
+    let (status, _) = run(rt.alloc(), &["spot", "area"], CIRCLE, &[], &[])?;
+    assert_eq!(rt; status, Status::Refused(Code::NotYet, 0));
+    let (status, _) = run(rt.alloc(), &["spot", "fly"], CIRCLE, &[], &[])?;
+    assert_eq!(rt; status, Status::BadWords);
+    Ok(())
+}
