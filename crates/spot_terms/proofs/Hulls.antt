@@ -1,5 +1,5 @@
 -- Laws of hulls: members, subsets, hulls of hulls, means, and what linear functions say.
-use Rattle.std.proofs.Common.{◌≡◌, ℕ, zero, suc, ◌+◌, ◌*◌, ◌<◌, arith, refl, sym, ap, ◌∙◌, subst, List, [], ◌∷◌, length, inl, inr}
+use Rattle.std.proofs.Common.{◌≡◌, ℕ, zero, suc, ◌+◌, ◌*◌, ◌<◌, arith, refl, sym, ap, ◌∙◌, subst, List, [], ◌∷◌, length, inl}
 use Rattle.std.specs.Prelude.{sum}
 use Rattle.std.specs.List.{AllByRecursion}
 use Rattle.std.proofs.lemmas.Int.{ints}
@@ -9,7 +9,7 @@ use lib.Signed.{◌≤ℤ◌}
 use Rattle.spot_terms.specs.declared.plain.Pt.{Pt}
 use Rattle.spot_terms.specs.Hull.{weighted, FractionPt, whole_pt, InHullAt, InHull, IsHullOf, dot, IsSupport}
 use Rattle.spot_terms.specs.Lists.{Includes}
-use Rattle.spot_terms.proofs.ListLemmas.{all_included}
+use Rattle.spot_terms.proofs.ListLemmas.{all_included, all_later, all_of, includes_itself}
 use Rattle.spot_terms.proofs.Products.{*ℤ_assoc, times_swap}
 use Rattle.spot_terms.proofs.Ring.{ring, var, num, ◌⊕◌, ◌⊖◌, ◌⊗◌}
 use Rattle.spot_terms.proofs.Mixes.{total, Mix, mix_none, mix_add, mix_scale, mix_to, mix_included, positive_times, Affine, mix_not_below, not_below_part, not_below_times}
@@ -108,10 +108,10 @@ hull_first u vs = hull_included (u ∷ vs) u (inl refl)
 -- ---- the hull of points of a hull
 
 -- a multiple of a sum of weighted points
-record Multiple (vs : List Pt) (W : ℕ) (X Y : ℤ) : Type 0 where
-  times : ℕ
-  some : 0 < times
-  mix : Mix vs (times * W) (pos times *ℤ X) (pos times *ℤ Y)
+pub record Multiple (vs : List Pt) (W : ℕ) (X Y : ℤ) : Type 0 where
+  pub times : ℕ
+  pub some : 0 < times
+  pub mix : Mix vs (times * W) (pos times *ℤ X) (pos times *ℤ Y)
 
 flat_z : (n c w x s : ℤ) → ((n *ℤ w) *ℤ (c *ℤ x)) +ℤ (c *ℤ (n *ℤ s)) ≡ (n *ℤ c) *ℤ ((w *ℤ x) +ℤ s)
 flat_z n c w x s =
@@ -154,21 +154,14 @@ hull_flat us vs q h i =
     step t n k z d X Y e f h =
         ap (λ (m : ℕ). pos (t * m) *ℤ z) e ∙ *ℤ_assoc (pos t) (pos n) z ∙ ap (λ u. pos t *ℤ u) h ∙ times_swap (pos t) d X ∙ ap (λ u. d *ℤ (pos t *ℤ u)) (sym f)
 
-hulls_of : (us vs : List Pt) → AllByRecursion (Includes vs) us → AllByRecursion (InHull vs) us
+-- members lie in the hull
+pub hulls_of : (us vs : List Pt) → AllByRecursion (Includes vs) us → AllByRecursion (InHull vs) us
 hulls_of [] vs h = tt
 hulls_of (u ∷ us) vs h = (hull_included vs u h.0, hulls_of us vs h.1)
 
 -- more points, greater hull
 pub hull_subset : (us vs : List Pt) (q : FractionPt) → AllByRecursion (Includes vs) us → InHullAt us q → InHullAt vs q
 hull_subset us vs q h i = hull_flat us vs q (hulls_of us vs h) i
-
-pub all_later : {X : Type 0} (u : X) (us vs : List X) → AllByRecursion (Includes vs) us → AllByRecursion (Includes (u ∷ vs)) us
-all_later u [] vs h = tt
-all_later u (x ∷ us) vs h = (inr h.0, all_later u us vs h.1)
-
-pub includes_itself : {X : Type 0} (vs : List X) → AllByRecursion (Includes vs) vs
-includes_itself [] = tt
-includes_itself (v ∷ vs) = (inl refl, all_later v vs vs (includes_itself vs))
 
 pub hull_more : (u : Pt) (vs : List Pt) (q : FractionPt) → InHullAt vs q → InHullAt (u ∷ vs) q
 hull_more u vs q h = hull_subset vs (u ∷ vs) q (all_later u vs vs (includes_itself vs)) h
@@ -241,11 +234,6 @@ hull_at_most a b c vs q all h =
         ∙ ring (a ∷ b ∷ c ∷ d ∷ n ∷ x ∷ y ∷ []) (((var 2 ⊗ var 3) ⊗ var 4) ⊖ ((var 0 ⊗ (var 4 ⊗ var 5)) ⊕ (var 1 ⊗ (var 4 ⊗ var 6)))) (var 4 ⊗ ((var 2 ⊗ var 3) ⊖ ((var 0 ⊗ var 5) ⊕ (var 1 ⊗ var 6)))) refl
 
 -- ---- supports
-
--- what holds of each item holds of all
-pub all_of : {X : Type 0} (P : X → Type 0) (xs : List X) → ((x : X) → Includes xs x → P x) → AllByRecursion P xs
-all_of P [] h = tt
-all_of P (x ∷ xs) h = (h x (inl refl), all_of P xs (λ y i. h y (inr i)))
 
 -- a support bounds the hull
 pub support_bounds : (vs : List Pt) (nx ny h : ℤ) (q : FractionPt) → IsSupport vs nx ny h → InHullAt vs q → (nx *ℤ q.x +ℤ ny *ℤ q.y) ≤ℤ (h *ℤ pos q.d)

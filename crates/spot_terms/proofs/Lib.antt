@@ -4,7 +4,13 @@ pub mod Roots
 pub mod Products
 pub mod Quotients
 pub mod ListLemmas
+pub mod Members
 pub mod Ring
 pub mod Mixes
 pub mod Hulls
 pub mod Segments
+pub mod Normals
+pub mod HullLaws
+pub mod QuotientBounds
+pub mod Gaps
+pub mod Distinct

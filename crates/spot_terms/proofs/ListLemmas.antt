@@ -1,6 +1,8 @@
 -- What is in a list, and lists in step.
-use Rattle.std.proofs.Common.{◌≡◌, ◌∙◌, ◌⊎◌, inl, inr, ℕ, zero, suc, ◌+◌, ◌<◌, ◌≤◌, Bool, true, false, cond, List, [], ◌∷◌, ◌++◌, map, filter, refl, sym, ap, subst, arith, add-zero, zero-add}
+use Rattle.std.proofs.Common.{◌≡◌, ◌∙◌, ◌⊎◌, inl, inr, ℕ, zero, suc, ◌+◌, ◌<◌, Bool, true, false, cond, List, [], ◌∷◌, ◌++◌, map, filter, take, length, refl, sym, ap, subst, arith, add-zero, zero-add}
 use Rattle.std.proofs.lemmas.Bool.{cases_lt}
+use Rattle.std.proofs.lemmas.List.{take_more}
+use Rattle.std.specs.Prelude.{slice_index_or}
 use Rattle.std.specs.List.{flat_map, AllByRecursion}
 use Rattle.spot_terms.specs.Lists.{Includes, Pairwise, numbers_below, numbers_from}
 
@@ -14,6 +16,18 @@ includes_front (y ∷ xs) ys x (inr i) = inr (includes_front xs ys x i)
 pub includes_back : {X : Type 0} (xs ys : List X) (x : X) → Includes ys x → Includes (xs ++ ys) x
 includes_back [] ys x i = i
 includes_back (y ∷ xs) ys x i = inr (includes_back xs ys x i)
+
+pub includes_either : {X : Type 0} (xs ys : List X) (x : X) → Includes (xs ++ ys) x → Includes xs x ⊎ Includes ys x
+includes_either [] ys x i = inr i
+includes_either (y ∷ xs) ys x (inl e) = inl (inl e)
+includes_either (y ∷ xs) ys x (inr i) = elim (includes_either xs ys x i) [ inl h ↦ inl (inr h) | inr h ↦ inr h ]
+
+-- an item of the first i + 1 is one of the first i, or the item at place i
+pub includes_taken : {X : Type 0} (xs : List X) (i : ℕ) (d x : X) → i < length xs → Includes (take (i + 1) xs) x → Includes (take i xs) x ⊎ (x ≡ slice_index_or xs i d)
+includes_taken xs i d x h k = elim (includes_either (take i xs) (slice_index_or xs i d ∷ []) x (subst (λ (l : List _). Includes l x) (take_more xs i d h) k)) [
+  | inl front ↦ inl front
+  | inr last ↦ elim last [ inl e ↦ inr e | inr none ↦ absurd none ]
+]
 
 pub includes_map : {X Y : Type 0} (f : X → Y) (xs : List X) (x : X) → Includes xs x → Includes (map f xs) (f x)
 includes_map f [] x i = absurd i
@@ -48,6 +62,27 @@ all_included P [] x a i = absurd i
 all_included P (y ∷ xs) x a (inl e) = subst P (sym e) a.0
 all_included P (y ∷ xs) x a (inr i) = all_included P xs x a.1 i
 
+-- what holds of each item holds of all
+pub all_of : {X : Type 0} (P : X → Type 0) (xs : List X) → ((x : X) → Includes xs x → P x) → AllByRecursion P xs
+all_of P [] h = tt
+all_of P (x ∷ xs) h = (h x (inl refl), all_of P xs (λ y i. h y (inr i)))
+
+-- a list one longer includes all that it included
+pub all_later : {X : Type 0} (u : X) (us vs : List X) → AllByRecursion (Includes vs) us → AllByRecursion (Includes (u ∷ vs)) us
+all_later u [] vs h = tt
+all_later u (x ∷ us) vs h = (inr h.0, all_later u us vs h.1)
+
+-- each item of a list is in it
+pub includes_itself : {X : Type 0} (vs : List X) → AllByRecursion (Includes vs) vs
+includes_itself [] = tt
+includes_itself (v ∷ vs) = (inl refl, all_later v vs vs (includes_itself vs))
+
+-- the item at a place
+pub includes_at : {X : Type 0} (xs : List X) (k : ℕ) (d : X) → k < length xs → Includes xs (slice_index_or xs k d)
+includes_at [] k d l = absurd (omega (arith, l))
+includes_at (x ∷ xs) zero d l = inl refl
+includes_at (x ∷ xs) (suc k) d l = inr (includes_at xs k d (omega (arith, l)))
+
 -- ---- numbers
 
 from-push : (n count : ℕ) → numbers_from n (suc count) ≡ numbers_from n count ++ (n + count) ∷ []
@@ -71,6 +106,20 @@ partner R (z ∷ xs) [] x p i = absurd p
 partner R (z ∷ xs) (y ∷ ys) x p (inl e) = (y, inl refl, subst (λ k. R k y) (sym e) p.0)
 partner R (z ∷ xs) (y ∷ ys) x p (inr i) = let (w, j, r) = partner R xs ys x p.1 i in (w, inr j, r)
 
+-- the items of a place
+pub pairwise_at : {X Y : Type 0} (R : X → Y → Type 0) (xs : List X) (ys : List Y) (k : ℕ) (d : X) (e : Y) → k < length xs → Pairwise R xs ys → R (slice_index_or xs k d) (slice_index_or ys k e)
+pairwise_at R [] ys k d e l p = absurd (omega (arith, l))
+pairwise_at R (x ∷ xs) [] k d e l p = absurd p
+pairwise_at R (x ∷ xs) (y ∷ ys) zero d e l p = p.0
+pairwise_at R (x ∷ xs) (y ∷ ys) (suc k) d e l p = pairwise_at R xs ys k d e (omega (arith, l)) p.1
+
+-- what follows for each pair
+pub pairwise_each : {X Y : Type 0} (R S : X → Y → Type 0) (xs : List X) (ys : List Y) → ((x : X) (y : Y) → R x y → S x y) → Pairwise R xs ys → Pairwise S xs ys
+pairwise_each R S [] [] h p = tt
+pairwise_each R S [] (y ∷ ys) h p = absurd p
+pairwise_each R S (x ∷ xs) [] h p = absurd p
+pairwise_each R S (x ∷ xs) (y ∷ ys) h p = (h x y p.0, pairwise_each R S xs ys h p.1)
+
 -- one more pair at the end
 pub pairwise_push : {X Y : Type 0} (R : X → Y → Type 0) (xs : List X) (ys : List Y) (x : X) (y : Y) → Pairwise R xs ys → R x y → Pairwise R (xs ++ x ∷ []) (ys ++ y ∷ [])
 pairwise_push R [] [] x y p r = (r, tt)
@@ -84,3 +133,8 @@ pairwise_map R f g [] [] h p = refl
 pairwise_map R f g [] (b ∷ ys) h p = absurd p
 pairwise_map R f g (a ∷ xs) [] h p = absurd p
 pairwise_map R f g (a ∷ xs) (b ∷ ys) h p = let e : f a ≡ g b = h a b p.0 in let t : map f xs ≡ map g ys = pairwise_map R f g xs ys h p.1 in cc
+
+-- a list beside what is made of each item
+pub beside_map : {X Y : Type 0} (R : X → Y → Type 0) (f : X → Y) (xs : List X) → ((x : X) → Includes xs x → R x (f x)) → Pairwise R xs (map f xs)
+beside_map R f [] h = tt
+beside_map R f (x ∷ xs) h = (h x (inl refl), beside_map R f xs (λ y i. h y (inr i)))

@@ -1,6 +1,7 @@
 -- Products of signed sums, for `omega (arith, ints, products)`, which reads z as `up z - down z` and does not multiply a sum out by itself.
 use Rattle.std.proofs.Common.{◌≡◌, ℕ, ◌+◌, ◌*◌, ◌<◌, ◌≤◌, arith, ap, sym, ◌∙◌, mul-le-mul_left, ℤ, pos, negsuc, ◌+ℤ◌, ◌-ℤ◌, ◌*ℤ◌, ◌≤ℤ◌, neg_ℤ}
 use Rattle.std.proofs.lemmas.Int.{ints}
+use Rattle.spot_terms.specs.Whole.{square}
 use Rattle.spot_terms.proofs.Roots.{root_order}
 use Rattle.std.proofs.Math.IntN.{*ℤ_comm}
 use borrow.Author.Differences.{up, down, sum_is_lem, product_is, neg_is}
@@ -32,6 +33,11 @@ pub ruleset products = (sum_times, times_sum, neg_times, times_neg)
 pub square_not_negative : (a : ℤ) → pos 0 ≤ℤ (a *ℤ a)
 square_not_negative (pos n) = omega (arith, ints)
 square_not_negative (negsuc n) = omega (arith, ints)
+
+-- the square of a number and of its size
+pub square_of_size : (a : ℤ) → a *ℤ a ≡ pos (square a)
+square_of_size (pos n) = omega (arith, ints)
+square_of_size (negsuc n) = omega (arith, ints)
 
 -- the square of a sum is at most twice the sum of the squares
 pub sum_square_le : (a b : ℤ) → ((a +ℤ b) *ℤ (a +ℤ b)) ≤ℤ (pos 2 *ℤ (a *ℤ a +ℤ b *ℤ b))

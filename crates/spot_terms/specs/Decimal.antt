@@ -31,6 +31,10 @@ signed_part (c ∷ cs) = if c == 45 then (true, cs) else if c == 43 then (false,
 abbrev pub are_digits : List ℕ → Bool
 are_digits cs = list_all is_ascii_digit cs
 
+-- the number of digits, where there is no other byte
+abbrev pub digits_of : List ℕ → Option ℕ
+digits_of text = (if are_digits text then Some (digits_value 10 text) else None)
+
 abbrev pub is_point : ℕ → Bool
 is_point c = c == 46
 

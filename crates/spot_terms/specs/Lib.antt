@@ -1,14 +1,22 @@
 -- The definitions, one module a concept.
 pub mod Bodies
 pub mod Causes
+pub mod Cells
+pub mod Clips
 pub mod Decimal
 pub mod Directions
+pub mod Frames
+pub mod Gaps
 pub mod Hull
+pub mod HullLaws
+pub mod Ids
 pub mod Lists
 pub mod Motions
+pub mod Network
 pub mod Ranges
 pub mod Reach
 pub mod Report
+pub mod Routes
 pub mod Statuses
 pub mod Types
 pub mod Whole

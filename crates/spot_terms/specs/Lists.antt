@@ -1,10 +1,15 @@
--- Lists, by cases: what is in one, two in step, and the numbers below a number.
+-- Lists, by cases: what is in one, and whether twice, two in step, and the numbers below a number.
 use Rattle.std.specs.Prelude.{◌≡◌, ◌⊎◌, ℕ, zero, suc, ◌+◌, List, [], ◌∷◌, ◌++◌}
 
 -- x is an item of the list
 abbrev pub Includes : {X : Type 0} → List X → X → Type 0
 Includes [] x = ⊥
 Includes (y ∷ ys) x = (x ≡ y) ⊎ Includes ys x
+
+-- no item stands in the list twice
+abbrev pub AreDistinct : {X : Type 0} → List X → Type 0
+AreDistinct [] = Unit {0}
+AreDistinct (x ∷ xs) = (Includes xs x → ⊥) × AreDistinct xs
 
 -- each item of the first list with the item of the second in its place
 abbrev pub Pairwise : {A B : Type 0} → (A → B → Type 0) → List A → List B → Type 0

@@ -1,12 +1,15 @@
 -- The ranges of values that are handed to calls.
-use Rattle.std.specs.Prelude.{ℕ, ◌≤◌, ◌+◌, length, pos, ◌≤ℤ◌}
+use Rattle.std.specs.Prelude.{◌≡◌, ℕ, ℤ, ◌≤◌, ◌+◌, List, [], ◌∷◌, length, pos, ◌≤ℤ◌}
 use Rattle.std.specs.List.{AllByRecursion}
 use Rattle.spot_terms.specs.Whole.{Within, SizeAtMost}
+use Rattle.spot_terms.specs.declared.command.Command.{Command}
 use Rattle.spot_terms.specs.declared.plain.VBox.{VBox}
 use Rattle.spot_terms.specs.declared.plain.AccStart.{AccStart}
+use Rattle.spot_terms.specs.declared.scenario.RawLane.{RawLane}
 use Rattle.spot_terms.specs.declared.scenario.Mover.{Mover}
 use Rattle.spot_terms.specs.declared.scenario.Fixed.{Fixed}
 use Rattle.spot_terms.specs.declared.scenario.Problem.{Problem}
+use Rattle.spot_terms.specs.declared.scenario.RawLane.{RawLane}
 use Rattle.spot_terms.specs.declared.scenario.Scenario.{Scenario}
 
 -- a box of velocities: in order, and each end at most m in size
@@ -38,6 +41,16 @@ pub record IsMoverInRange (m : Mover) : Type 0 where
   pub enclosing : m.enclosing ≤ 250_000_000
   pub inscribed : m.inscribed ≤ 250_000_000
 
+-- a recorded state of an accepted scenario: its step, x and y
+pub record IsStateInRange (r : ℕ × ℤ × ℤ) : Type 0 where
+  pub time : r.0 ≤ 1_000_000
+  pub x : SizeAtMost 10_000_000_000_000 r.1
+  pub y : SizeAtMost 10_000_000_000_000 r.2
+
+-- the recorded states of a dynamic obstacle of an accepted scenario
+abbrev pub AreStatesInRange : Mover → Type 0
+AreStatesInRange m = AllByRecursion IsStateInRange m.recorded
+
 -- a static obstacle of an accepted scenario
 pub record IsFixedInRange (f : Fixed) : Type 0 where
   pub id : f.id ≤ 4_294_967_295
@@ -55,6 +68,18 @@ pub record IsProblemInRange (p : Problem) : Type 0 where
   pub angle : SizeAtMost 7_000_000 p.angle
   pub time : p.time ≤ 1_000_000
 
+-- a point of a bound, at most 10^13 in size
+pub record IsPairInRange (p : ℤ × ℤ) : Type 0 where
+  pub x : SizeAtMost 10_000_000_000_000 p.0
+  pub y : SizeAtMost 10_000_000_000_000 p.1
+
+-- a lanelet of which a network can be built: bounds of as many points, at least 2, at most 10^13 in size
+pub record IsLaneInRange (l : RawLane) : Type 0 where
+  pub even : length l.left ≡ length l.right
+  pub some : 2 ≤ length l.left
+  pub left : AllByRecursion IsPairInRange l.left
+  pub right : AllByRecursion IsPairInRange l.right
+
 -- the step, the obstacles and the problems of an accepted scenario
 pub record IsInRange (s : Scenario) : Type 0 where
   pub step_low : 1 ≤ s.step
@@ -63,3 +88,38 @@ pub record IsInRange (s : Scenario) : Type 0 where
   pub movers : AllByRecursion IsMoverInRange s.movers
   pub fixed : AllByRecursion IsFixedInRange s.fixed
   pub problems : AllByRecursion IsProblemInRange s.problems
+
+-- ---- how much there may be
+
+-- how many states are recorded of all dynamic obstacles
+abbrev pub recorded_count : List Mover → ℕ
+recorded_count [] = 0
+recorded_count (m ∷ ms) = length m.recorded + recorded_count ms
+
+-- the points of the bounds of a lanelet and its references
+abbrev pub lane_size : RawLane → ℕ
+lane_size l = length l.left + length l.right + length l.successors + length l.predecessors + length l.sides
+
+-- those of all lanelets
+abbrev pub lanes_size : List (ℕ × RawLane) → ℕ
+lanes_size [] = 0
+lanes_size (l ∷ ls) = lane_size l.1 + lanes_size ls
+
+-- recorded states and problems together, and points and references of all lanelets together
+pub record IsFew (s : Scenario) : Type 0 where
+  pub recorded : recorded_count s.movers + length s.problems ≤ 67_108_864
+  pub lanes : lanes_size s.lanelets.entries ≤ 67_108_864
+
+-- ---- commands
+
+-- the numbers of a command; the wanted id is any that its type has
+pub record IsCommandInRange (c : Command) : Type 0 where
+  pub steps : (1 ≤ c.steps) × (c.steps ≤ 100)
+  pub ego_acc : (1 ≤ c.ego_acc) × (c.ego_acc ≤ 20)
+  pub ego_speed : (1 ≤ c.ego_speed) × (c.ego_speed ≤ 100)
+  pub ego_length : (100 ≤ c.ego_length) × (c.ego_length ≤ 20_000)
+  pub ego_width : (100 ≤ c.ego_width) × (c.ego_width ≤ 20_000)
+  pub cell_x : (100 ≤ c.cell_x) × (c.cell_x ≤ 100_000)
+  pub cell_y : (100 ≤ c.cell_y) × (c.cell_y ≤ 100_000)
+  pub lanes : (1 ≤ c.lanes) × (c.lanes ≤ 8)
+  pub movers : c.movers ≤ 1000

@@ -5,6 +5,7 @@
 mod command;
 mod lines;
 mod lists;
+mod network;
 mod plain;
 mod scenario;
 mod status;
@@ -12,10 +13,12 @@ mod status;
 ghost use Rattle.spot_terms.specs.Report.{TextsTellReports};
 ghost use Rattle.spot_terms.specs.Decimal.{ReadingIsOne, EachHasReading};
 ghost use Rattle.spot_terms.specs.Whole.{RootsAre};
+ghost use Rattle.spot_terms.specs.HullLaws.{HullLaws};
 
 pub use command::{Command, Task};
 pub use lines::{End, Mode, MoverLine};
 pub use lists::{IdList, PtList, StateList};
+pub use network::Origin;
 pub use plain::{AccStart, Pt, VBox};
 pub use scenario::{Fixed, FixedList, Kind, Mover, Movers, Problem, Problems, RawLane, Scenario};
 pub use status::{Code, Status, Which};
@@ -38,4 +41,9 @@ pub fn each_fraction_has_a_reading()
 /// The computed roots are the roots.
 pub fn roots_are()
     ensures { RootsAre }
+{}
+
+/// Hulls by whole weights keep the laws of hulls.
+pub fn hulls_keep_their_laws()
+    ensures { HullLaws }
 {}
