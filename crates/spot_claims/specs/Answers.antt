@@ -103,14 +103,10 @@ abbrev pub NotTreeExactly : Meaning → Option (List ℕ) → Status → Type 0
 NotTreeExactly Stands told status = (bytes : List ℕ) (place : ℕ) → told ≡ Some bytes
     → ExactlyWhere (IsRead Stands bytes × HasFaultAt bytes place) (Refused NotTree place) status
 
--- where a check of the tree fails, the first that fails is answered
-pub record IsFirstCheck (Stands : Meaning) (bytes : List ℕ) (status : Status) : Type 0 where
-  pub only : (code : Code) (place : ℕ) → IsOfCheck code → status ≡ Refused code place → IsRead Stands bytes × IsRefusedAt bytes code place
-  pub comes : (code : Code) (place : ℕ) → IsRead Stands bytes × IsRefusedAt bytes code place
-      → ((answered : Code) × (other : ℕ) × (status ≡ Refused answered other) × IsRefusedAt bytes answered other) ⊎ IsOutside status
-
+-- where a check of the tree fails, the first that fails is answered, with its place
 abbrev pub RefusedExactly : Meaning → Option (List ℕ) → Status → Type 0
-RefusedExactly Stands told status = (bytes : List ℕ) → told ≡ Some bytes → IsFirstCheck Stands bytes status
+RefusedExactly Stands told status = (bytes : List ℕ) (code : Code) (place : ℕ) → told ≡ Some bytes → IsOfCheck code
+    → ExactlyWhere (IsRead Stands bytes × IsRefusedAt bytes code place) (Refused code place) status
 
 -- what isn't built yet: another task, whatever the source tells, and lanelets
 pub record NotYetExactly (Stands : Meaning) (told : Option (List ℕ)) (status : Status) : Type 0 where

@@ -7,7 +7,7 @@ use Rattle.spot_terms.specs.Lists.{At, Includes}
 use Rattle.spot_terms.specs.Decimal.{fraction_of, Reads}
 use Rattle.spot_terms.specs.declared.status.Code.{Code}
 use Rattle.spot_terms.specs.declared.status.Code.TheVariants.{Root, Version, Missing, BadNumber, OutOfRange, StepSize, BadId, DuplicateId, BoundCount, UncertainPosition, UncertainValue, TooManyParticipants}
-use Rattle.spot_claims.specs.Tree.{Element, is_called, first_named, attribute_at, text_at}
+use Rattle.spot_claims.specs.Tree.{Element, IsTreeOf, is_called, first_named, attribute_at, text_at}
 use Rattle.spot_claims.specs.Paths.{Path, each_child, first_child, walk, at_path, lanelets, statics, dynamics, problems, id_at}
 
 -- ---- words for the checks
@@ -397,6 +397,12 @@ pub record IsRefused (tree : List Element) (place : ℕ) (code : Code) : Type 0 
 -- no check fails
 abbrev pub IsAccepted : List Element → Type 0
 IsAccepted tree = (e j : ℕ) (code : Code) → Fails tree e j code → ⊥
+
+-- ---- a tree has one refusal at most
+
+abbrev pub TreeHasOneRefusal : Type 0
+TreeHasOneRefusal = (bytes : List ℕ) (tree : List Element) (place other : ℕ) (code reason : Code) → IsTreeOf bytes tree
+    → IsRefused tree place code → IsRefused tree other reason → (place ≡ other) × (code ≡ reason)
 
 -- ---- examples
 

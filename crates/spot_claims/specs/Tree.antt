@@ -1,8 +1,9 @@
 -- The JSON reading of bytes, and the element tree of a JSON value: its elements in document order, or the first value
 -- that fails to be one.
-use Rattle.std.specs.Prelude.{◌≡◌, ℕ, ◌+◌, ◌<◌, ◌≤◌, ◌==◌, ◌&&◌, ◌||◌, Bool, true, false, nat_lt, List, [], ◌∷◌, ◌++◌, length, reverse, filter, find, slice_index_or, if◌then◌else◌, Option, Some, None, option_map, codes, refl}
+use Rattle.std.specs.Prelude.{◌≡◌, ℕ, ◌+◌, ◌<◌, ◌≤◌, ◌==◌, ◌&&◌, ◌||◌, Bool, true, false, nat_lt, List, [], ◌∷◌, ◌++◌, length, reverse, filter, flat_map, find, slice_index_or, if◌then◌else◌, Option, Some, None, option_map, codes, refl}
 use Rattle.std.specs.List.{All}
 use Rattle.std.specs.Str.{IsUtf8, bytes_eq}
+use Rattle.spot_terms.specs.Lists.{AreDistinct}
 use Rattle.serde_json.proofs.OnLiterals.{serde_json_on_literals}
 use Rattle.serde_json.specs.Data.{Data, null, boolean, number, string, array, object, unsigned, Items, no_items, item, Members, no_members, member}
 use Rattle.serde_json.specs.Read.{read}
@@ -202,13 +203,18 @@ abbrev pub Rising : ℕ → List ℕ → Type 0
 Rising low [] = Unit {0}
 Rising low (c ∷ cs) = (low ≤ c) × Rising (c + 1) cs
 
+-- the numbers of the children of all elements
+abbrev pub all_children : List Element → List ℕ
+all_children tree = flat_map (λ e. e.children) tree
+
 -- there is an element, there are at most as many as an input has bytes, and the numbers of children are those of elements
--- and rise
+-- and rise; the first element is no child, and each other at most once
 pub record IsTree (tree : List Element) : Type 0 where
   pub some : 0 < length tree
   pub few : length tree ≤ 67108864
   pub within : All (λ e. All (λ c. c < length tree) e.children) tree
   pub rising : All (λ e. Rising 0 e.children) tree
+  pub once : AreDistinct (0 ∷ all_children tree)
 
 -- ---- questions
 
