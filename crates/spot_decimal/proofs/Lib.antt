@@ -5,3 +5,4 @@ pub mod Fronts
 pub mod Nearest
 pub mod Sizes
 pub mod Signs
+pub mod DigitLemmas

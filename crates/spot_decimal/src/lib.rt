@@ -1,12 +1,14 @@
 //! Decimal texts, read to the nearest whole number of units.
 #![tactic(auto)]
 
+mod digits;
 mod parts;
 mod value;
 
 ghost use Rattle.std.specs.Prelude.{◌≡◌, ℕ, ℤ, ◌<◌, ◌≤◌, ◌^◌, ◌↔◌, None, length, nat_abs, IfOk, IsErrOf};
 ghost use Rattle.spot_terms.specs.Decimal.{fraction_of, signed, Reads};
 
+pub use digits::read_digits;
 use parts::parse;
 use thiserror::Error;
 use value::size_of;
