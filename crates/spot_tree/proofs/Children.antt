@@ -3,9 +3,11 @@ use Rattle.std.proofs.Common.{◌≡◌, ◌∙◌, ℕ, ◌+◌, ◌<◌, ◌�
 use Rattle.std.specs.List.{All, AllByRecursion}
 use Rattle.std.proofs.lemmas.List.Elements.{All-from_recursion}
 use Rattle.serde_json.specs.Data.{Data, null, boolean, number, string, array, object, Items, no_items, item}
+use Rattle.spot_terms.specs.Lists.{AreDistinct}
 use Rattle.spot_claims.specs.Tree.{Element, wanted, wanted_in, wanted_behind_name, wanted_behind_attributes, wanted_of, content, is_string, numbered, children_from}
-use Rattle.spot_claims.specs.Tree.{IsTree, Rising}
+use Rattle.spot_claims.specs.Tree.{IsTree, Rising, all_children}
 use Rattle.spot_tree.proofs.Numbering.{numbered-append, behind_name_is, length-numbered, wanted_other}
+use Rattle.spot_tree.proofs.Parents.{once_in}
 
 abbrev Below : ℕ → List ℕ → Type 0
 Below end cs = AllByRecursion (λ c. c < end) cs
@@ -103,4 +105,5 @@ tree_is_whole d es s few e =
       few = omega arith;
       within = λ k x h. let good = All-from_recursion (Good (length es)) es inside_all k x h in good.0;
       rising = λ k x h. let good = All-from_recursion (Good (length es)) es inside_all k x h in good.1;
+      once = subst (λ (xs : List Element). AreDistinct (0 ∷ all_children xs)) (sym e) (once_in d s);
     }

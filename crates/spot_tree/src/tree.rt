@@ -1,7 +1,7 @@
 //! The whole tree.
 ghost use Rattle.std.specs.Prelude.{◌≡◌, ◌<◌, ◌≤◌, length, option_map, IfSome};
 ghost use Rattle.std.specs.List.{All};
-ghost use Rattle.spot_claims.specs.Tree.{element_in, attribute_at, text_at, first_named, Rising};
+ghost use Rattle.spot_claims.specs.Tree.{IsTree, element_in, attribute_at, text_at, first_named, Rising};
 ghost use Rattle.spot_tree.specs.Answers.{ReadsTree};
 
 use crate::TreeFault;
@@ -39,6 +39,14 @@ impl Tree {
         ensures few { result ≤ 67108864 }
     {
         self.nodes.len() as u32
+    }
+
+    /// What holds of each tree: children are elements, an element's children stand in document order, the first element
+    /// is no child, and each other is a child once at most.
+    pub fn is_tree(&self)
+        ensures { IsTree self.now }
+    {
+        let _nodes = &self.nodes;
     }
 
     /// The name of an element, which is below `len`.
