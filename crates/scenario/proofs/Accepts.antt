@@ -1,18 +1,20 @@
 -- What an accepted tree has at the elements that are read.
 use Rattle.std.proofs.Common.{◌≡◌, ◌∙◌, ◌⊎◌, inl, inr, ℕ, ◌<◌, ◌≤◌, List, [], ◌∷◌, ◌++◌, get_or, Option, Some, None, Bool, true, false, refl, sym, ap, subst, arith, codes, IsTrue, is_none, lit<, append-nil, not, ◌==◌, ◌||◌, ◌&&◌, nat_lt}
 use Rattle.std.specs.List.{list_all, flat_map, filter_map, count_by}
+use Rattle.spot_terms.proofs.Members.{in_flat_map}
+use Rattle.spot_terms.proofs.ListLemmas.{includes_back, includes_front}
 use Rattle.spot_terms.specs.Lists.{Includes, At}
 use Rattle.spot_terms.specs.declared.status.Code.TheVariants.{Missing, UncertainPosition, UncertainValue}
 use Rattle.spot_claims.specs.Tree.{Element, all_named, first_named, text_at}
 use Rattle.spot_claims.specs.Paths.{Path, first_child, each_child, walk, at_path, id_at, lanelets, statics, dynamics, problems}
 use Rattle.spot_claims.specs.Profile as profile
-use Rattle.spot_claims.specs.Profile.{Number, Check, Line, IsAccepted, FailsAt, code_of, bad_id, bad_number, out_of_range, lacks_a_child, lacks_each_child, lacks, lacks_one, lacks_all, is_bad_number, IsUneven, step_size_text, bad_step_size, uneven_step_size, IsTooLarge, IsOutside, root_line, position, position_point, coordinate, angle, speed, step_number, shape_coordinate, size, states, moving_starts, obstacles, recorded, position_line, position_point_line, position_number_line, point_count, bound_count, duplicate_id, too_many, at_paths, same_id, to_first, to_each, shape, rectangle, polygon, corner, rectangle_center, circle_center}
+use Rattle.spot_claims.specs.Profile.{Number, Check, Line, IsAccepted, FailsAt, code_of, bad_id, bad_number, out_of_range, lacks_a_child, lacks_each_child, lacks, lacks_one, lacks_all, is_bad_number, IsUneven, step_size_text, bad_step_size, uneven_step_size, IsTooLarge, IsOutside, root_line, position, position_point, coordinate, angle, speed, step_number, shape_coordinate, size, states, moving_starts, obstacles, recorded, position_line, position_point_line, position_number_line, point_count, bound_count, duplicate_id, is_second, too_many, at_paths, same_id, to_first, to_each, shape, rectangle, polygon, corner, rectangle_center, circle_center}
 use Rattle.scenario.specs.Has.{IsGood, HasNumber, HasPoint, HasExact, HasPosition, HasStart, HasRecorded, HasCenter, HasCircle, HasRectangle, HasCorners, HasShape, HasFixed, HasMover, HasProblem, HasPoints, HasLane}
 use Rattle.scenario.proofs.Paths.{walk_append}
 use Rattle.spot_claims.specs.Scenario.{bound_points}
 use Rattle.std.proofs.lemmas.Bool.Decides.{nat_tests}
 use Rattle.scenario.proofs.Firsts.{second_at}
-use Rattle.scenario.proofs.Members.{any_in, item_in, in_front, in_last, in_back}
+use Rattle.scenario.proofs.Members.{any_in, item_in, in_last}
 
 -- ---- no check fails
 
@@ -65,8 +67,8 @@ through_first f (z ∷ xs) x y (inr h) e = rest_in f z xs y (f z) refl (through_
 
 pub through_each : {X Y : Type 0} (f : X → List Y) (xs : List X) (x : X) (y : Y) → Includes xs x → Includes (f x) y → Includes (flat_map f xs) y
 through_each f [] x y h k = absurd h
-through_each f (z ∷ xs) x y (inl s) k = let P : _ → Type 0 = λ w. Includes (f w) y in in_front (f z) (flat_map f xs) y (subst P s k)
-through_each f (z ∷ xs) x y (inr h) k = in_back (f z) (flat_map f xs) y (through_each f xs x y h k)
+through_each f (z ∷ xs) x y (inl s) k = let P : _ → Type 0 = λ w. Includes (f w) y in includes_front (f z) (flat_map f xs) y (subst P s k)
+through_each f (z ∷ xs) x y (inr h) k = includes_back (f z) (flat_map f xs) y (through_each f xs x y h k)
 
 one_more : (tree : List Element) (s w : Path) (e : ℕ) (name : List ℕ) (c : ℕ) → Includes (walk tree w (at_path tree s)) e → first_named tree name e ≡ Some c → Includes (walk tree (to_first w name) (at_path tree s)) c
 one_more tree s w e name c here is =
@@ -130,10 +132,10 @@ has_start tree ok s e start here =
     let v = child_of tree e StartNames (codes "velocity") lack (inr (inr (inl refl))) in
     let t = child_of tree e StartNames (codes "time") lack (inr (inr (inr (inl refl)))) in
     record {
-      position = has_position tree ok s e p.0 (inr (in_front moving_starts (recorded ∷ []) s start)) here p.1;
+      position = has_position tree ok s e p.0 (inr (includes_front moving_starts (recorded ∷ []) s start)) here p.1;
       orientation = has_exact tree ok profile.value_line profile.orientation_line s e (codes "orientation") o.0 angle here o.1 (line_in 14 (lit< tt)) start (inl refl) refl (line_in 21 (lit< tt)) start (inl refl) refl refl;
       velocity = has_exact tree ok profile.value_line profile.velocity_line s e (codes "velocity") v.0 speed here v.1 (line_in 14 (lit< tt)) start (inr (inl refl)) refl (line_in 22 (lit< tt)) start (inl refl) refl refl;
-      time = has_exact tree ok profile.value_line profile.time_line s e (codes "time") t.0 step_number here t.1 (line_in 14 (lit< tt)) start (inr (inr (inl refl))) refl (line_in 23 (lit< tt)) (in_front moving_starts (recorded ∷ []) s start) (inl refl) refl refl;
+      time = has_exact tree ok profile.value_line profile.time_line s e (codes "time") t.0 step_number here t.1 (line_in 14 (lit< tt)) start (inr (inr (inl refl))) refl (line_in 23 (lit< tt)) (includes_front moving_starts (recorded ∷ []) s start) (inl refl) refl refl;
     }
 
 pub has_recorded : (tree : List Element) → IsAccepted tree → (e : ℕ) → Includes (at_path tree recorded) e → HasRecorded tree e
@@ -302,7 +304,23 @@ has_lane tree ok e here =
 pub not_again : (tree : List Element) → IsAccepted tree → (d e i : ℕ) → Includes (at_path tree lanelets) d → Includes (at_path tree lanelets) e → d < e → id_at tree e ≡ Some i → id_at tree d ≡ Some i → ⊥
 not_again tree ok d e i before here less has had =
     no_fail tree ok profile.lanelet_line lanelets [] e 1 (duplicate_id (lanelets ∷ [])) (line_in 1 (lit< tt)) (inl refl) (inl refl) here refl
-    (any_in (λ x. nat_lt x e && same_id (id_at tree x) (id_at tree e)) (at_paths tree (lanelets ∷ [])) d (in_front (at_path tree lanelets) [] d before) (second_at tree d e i has had less))
+    (any_in (λ x. nat_lt x e && same_id (id_at tree x) (id_at tree e)) (at_paths tree (lanelets ∷ [])) d (includes_front (at_path tree lanelets) [] d before) (second_at tree d e i has had less))
+
+-- ---- ids that are unique
+
+-- where a group of elements must have unique ids, none has the id of one before it
+none_second : (tree : List Element) → IsAccepted tree → (row : Line) → Includes profile.profile row → Includes row.ways [] → At row.checks 1 (duplicate_id row.starts)
+    → (e : ℕ) → Includes (at_paths tree row.starts) e → is_second tree (at_paths tree row.starts) e ≡ true → ⊥
+none_second tree ok row listed way at e here = let from = in_flat_map (at_path tree) row.starts e here in no_fail tree ok row from.0 [] e 1 (duplicate_id row.starts) listed from.1 way from.2 at
+
+pub no_second_lanelet : (tree : List Element) → IsAccepted tree → (e : ℕ) → Includes (at_paths tree (lanelets ∷ [])) e → is_second tree (at_paths tree (lanelets ∷ [])) e ≡ true → ⊥
+no_second_lanelet tree ok = none_second tree ok profile.lanelet_line (line_in 1 (lit< tt)) (inl refl) refl
+
+pub no_second_obstacle : (tree : List Element) → IsAccepted tree → (e : ℕ) → Includes (at_paths tree obstacles) e → is_second tree (at_paths tree obstacles) e ≡ true → ⊥
+no_second_obstacle tree ok = none_second tree ok profile.obstacle_line (line_in 3 (lit< tt)) (inl refl) refl
+
+pub no_second_problem : (tree : List Element) → IsAccepted tree → (e : ℕ) → Includes (at_paths tree (problems ∷ [])) e → is_second tree (at_paths tree (problems ∷ [])) e ≡ true → ⊥
+no_second_problem tree ok = none_second tree ok profile.problem_line (line_in 16 (lit< tt)) (inl refl) refl
 
 -- ---- the step
 

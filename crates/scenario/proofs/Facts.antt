@@ -1,4 +1,5 @@
 -- What is read of obstacles and problems.
+use Rattle.spot_terms.specs.Ranges.{IsLaneInRange, IsPairInRange}
 use Rattle.std.proofs.Common.{◌≡◌, ◌∙◌, ℕ, ◌+◌, ◌<◌, ◌≤◌, ℤ, pos, List, [], ◌∷◌, length, get_or, drop, map, Some, Bool, true, false, cond, refl, sym, ap, subst, arith, codes, unwrap_or, neg_ℤ, nat_abs}
 use Rattle.std.specs.List.{find, AllByRecursion}
 use Rattle.std.proofs.lemmas.Int.{ints}
@@ -18,7 +19,6 @@ use Rattle.spot_terms.specs.Whole.{Within}
 use Rattle.spot_terms.specs.declared.plain.Pt.{Pt}
 use Rattle.spot_terms.specs.declared.scenario.RawLane.{RawLane}
 use Rattle.scenario.specs.Has.{HasLane}
-use Rattle.scenario.specs.Lanes.{IsPairInRange, IsLaneInRange}
 use Rattle.scenario.specs.Kinds.{kind_in, key_of, view_of}
 use Rattle.scenario.specs.declared.items.NamedKind.{NamedKind}
 

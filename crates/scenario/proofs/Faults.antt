@@ -2,6 +2,8 @@
 use Rattle.std.proofs.Common.{◌≡◌, ◌⊎◌, inl, inr, ℕ, ◌+◌, ◌<◌, ◌≤◌, List, [], ◌∷◌, ◌++◌, length, take, get_or, map, Option, Some, None, Bool, true, false, cond, refl, sym, subst, arith, nat_lt, ◌==◌, ◌||◌, ◌&&◌, take_all}
 use Rattle.std.proofs.lemmas.Bool.Decides.{nat_tests}
 use Rattle.std.proofs.lemmas.List.{take_more}
+use Rattle.spot_terms.proofs.Members.{in_map}
+use Rattle.spot_terms.proofs.ListLemmas.{includes_front, includes_map}
 use Rattle.spot_terms.specs.Lists.{Includes, At}
 use Rattle.spot_terms.specs.declared.status.Code.{Code}
 use Rattle.spot_claims.specs.Tree.{Element}
@@ -13,7 +15,7 @@ use Rattle.scenario.specs.Fault.{Least, IsLeastFault, least_of, comes_before, On
 use Rattle.scenario.specs.declared.table.Check.{Check}
 use Rattle.scenario.specs.declared.table.Line.{Line}
 use Rattle.scenario.specs.declared.fault.Fault.{Fault}
-use Rattle.scenario.proofs.Members.{in_front, in_last, in_more, in_map, map_in, at_map, map_at}
+use Rattle.scenario.proofs.Members.{in_last, in_more, at_map, map_at}
 
 -- ---- the order
 
@@ -84,7 +86,7 @@ one_more P xs i d a b h p q =
     let x = get_or xs i d in
     subst Q (sym (take_more xs i d h)) (union (OneOf P (take i xs)) (P x) (OneOf P (take i xs ++ x ∷ [])) a b (record {
       split = split_one P (take i xs) x;
-      left = λ e j code m. record { item = m.item; listed = in_front (take i xs) (x ∷ []) m.item m.listed; holds = m.holds };
+      left = λ e j code m. record { item = m.item; listed = includes_front (take i xs) (x ∷ []) m.item m.listed; holds = m.holds };
       right = λ e j code m. record { item = x; listed = in_last (take i xs) x; holds = m };
     }) p q)
 
@@ -130,12 +132,12 @@ to_profile tree lines e j code h =
     let Q : ℕ → Type 0 = λ x. FailsAt tree x one.check in
     record {
       row = line_of h.item;
-      listed = map_in line_of lines h.item h.listed;
+      listed = includes_map line_of lines h.item h.listed;
       read = record {
         start = path_of starts.item;
-        is_start = map_in path_of h.item.starts.now starts.item starts.listed;
+        is_start = includes_map path_of h.item.starts.now starts.item starts.listed;
         way = path_of ways.item;
-        is_way = map_in path_of h.item.ways.now ways.item ways.listed;
+        is_way = includes_map path_of h.item.ways.now ways.item ways.listed;
         leads = subst P (sym one.same) elements.listed;
       };
       check = one.check;

@@ -11,20 +11,21 @@ use Rattle.spot_claims.specs.Profile.{IsAccepted, at_paths, obstacles}
 use Rattle.scenario.proofs.Accepts.{not_too_many}
 use Rattle.scenario.proofs.Counts.{count_cons, count_none, count_front}
 use Rattle.scenario.proofs.Rises.{low_before, in_filter}
-use Rattle.scenario.proofs.Members.{item_in, in_either, in_front}
+use Rattle.scenario.proofs.Members.{item_in}
+use Rattle.spot_terms.proofs.ListLemmas.{includes_either, includes_front}
 
 -- ---- how many are below a number, and how many are it
 
-abbrev Below : ℕ → List ℕ → ℕ
+abbrev pub Below : ℕ → List ℕ → ℕ
 Below t xs = count_by (λ d. nat_lt d t) xs
 
-abbrev Same : ℕ → List ℕ → ℕ
+abbrev pub Same : ℕ → List ℕ → ℕ
 Same t xs = count_by (λ d. d == t) xs
 
 one_next : (d t : ℕ) → cond (nat_lt d (t + 1)) 1 0 ≡ cond (nat_lt d t) 1 0 + cond (d == t) 1 0
 one_next d t = grind (arith, nat_tests)
 
-next : (t : ℕ) (xs : List ℕ) → Below (t + 1) xs ≡ Below t xs + Same t xs
+pub next : (t : ℕ) (xs : List ℕ) → Below (t + 1) xs ≡ Below t xs + Same t xs
 next t [] = refl
 next t (x ∷ xs) =
     let a = count_cons (λ d. nat_lt d (t + 1)) x xs (nat_lt x (t + 1)) refl in
@@ -33,7 +34,7 @@ next t (x ∷ xs) =
     let n = next t xs in
     let o = one_next x t in omega (arith, a, b, c, n, o)
 
-none_below : (xs : List ℕ) → Below 0 xs ≡ 0
+pub none_below : (xs : List ℕ) → Below 0 xs ≡ 0
 none_below xs = count_none (λ d. nat_lt d 0) xs (λ k d h. no_less (get_or xs k d))
   where
     no_less : (x : ℕ) → nat_lt x 0 ≡ false
@@ -67,7 +68,7 @@ between xs n (suc t) one h = elim (below_or n (Below t xs)) [
         plus : (t : ℕ) → suc t ≡ t + 1
         plus t = omega arith
 
-all_below : (xs : List ℕ) (m : ℕ) → All (λ x. x < m) xs → Below m xs ≡ length xs
+pub all_below : (xs : List ℕ) (m : ℕ) → All (λ x. x < m) xs → Below m xs ≡ length xs
 all_below xs m h = count_front (λ d. nat_lt d m) xs (length xs) (omega arith) (λ k d l. less (get_or xs k d) m (h k d l)) (λ k d a l. absurd (omega arith))
   where
     less : (x m : ℕ) → x < m → nat_lt x m ≡ true
@@ -117,27 +118,27 @@ same_append t (x ∷ xs) ys =
 
 -- ---- obstacles
 
-abbrev Statics : List Element → List ℕ
+abbrev pub Statics : List Element → List ℕ
 Statics tree = all_named tree (codes "staticObstacle") 0
 
-abbrev Dynamics : List Element → List ℕ
+abbrev pub Dynamics : List Element → List ℕ
 Dynamics tree = all_named tree (codes "dynamicObstacle") 0
 
-both_named : (n : List ℕ) → bytes_eq n (codes "staticObstacle") ≡ true → bytes_eq n (codes "dynamicObstacle") ≡ true → ⊥
+pub both_named : (n : List ℕ) → bytes_eq n (codes "staticObstacle") ≡ true → bytes_eq n (codes "dynamicObstacle") ≡ true → ⊥
 both_named n a b =
     let s : n ≡ codes "staticObstacle" = (bytes_decides n (codes "staticObstacle")).0 a in
     let d : n ≡ codes "dynamicObstacle" = (bytes_decides n (codes "dynamicObstacle")).0 b in
     let e : 115 ≡ 100 = ap (λ l. get_or l 0 0) (sym s ∙ d) in absurd (omega (arith, e))
 
-all_in : (m : ℕ) (xs : List ℕ) (x : ℕ) → All (λ c. c < m) xs → Includes xs x → x < m
+pub all_in : (m : ℕ) (xs : List ℕ) (x : ℕ) → All (λ c. c < m) xs → Includes xs x → x < m
 all_in m [] x h k = absurd k
 all_in m (y ∷ ys) x h (inl s) = let l = h 0 0 (omega arith) in omega (arith, l, s)
 all_in m (y ∷ ys) x h (inr k) = all_in m ys x (λ i d l. h (suc i) d (omega arith)) k
 
-abbrev Both : List Element → List ℕ
+abbrev pub Both : List Element → List ℕ
 Both tree = Statics tree ++ Dynamics tree
 
-both_are : (tree : List Element) → at_paths tree obstacles ≡ Both tree
+pub both_are : (tree : List Element) → at_paths tree obstacles ≡ Both tree
 both_are tree = simp append-nil
 
 one_each : (tree : List Element) → Rising 0 (element_in tree 0).children → (t : ℕ) → Same t (Both tree) ≤ 1
@@ -147,7 +148,7 @@ one_each tree r t =
     let c = same_once 0 t (element_in tree 0).children r in omega (arith, a, b, c)
 
 inside : (tree : List Element) (m : ℕ) → All (λ c. c < m) (element_in tree 0).children → All (λ x. x < m) (Both tree)
-inside tree m h = λ k d l. elim (in_either (Statics tree) (Dynamics tree) (get_or (Both tree) k d) (item_in (Both tree) k d l)) [
+inside tree m h = λ k d l. elim (includes_either (Statics tree) (Dynamics tree) (get_or (Both tree) k d) (item_in (Both tree) k d l)) [
   | inl s ↦ all_in m (element_in tree 0).children (get_or (Both tree) k d) h (in_filter (is_called tree (codes "staticObstacle")) (element_in tree 0).children (get_or (Both tree) k d) s).0
   | inr s ↦ all_in m (element_in tree 0).children (get_or (Both tree) k d) h (in_filter (is_called tree (codes "dynamicObstacle")) (element_in tree 0).children (get_or (Both tree) k d) s).0
 ]
@@ -157,9 +158,9 @@ too_many tree ok r m h big =
     let all = all_below (Both tree) m (inside tree m h) in
     let at = between (Both tree) 4096 m (one_each tree r) (omega (arith, all, big)) in
     let count : count_by (λ d. nat_lt d at.0) (at_paths tree obstacles) ≡ 4096 = ap (λ l. count_by (λ d. nat_lt d at.0) l) (both_are tree) ∙ at.1 in
-    elim (in_either (Statics tree) (Dynamics tree) at.0 (same_in at.0 (Both tree) at.2)) [
-      | inl s ↦ not_too_many tree ok statics at.0 (inl refl) (in_front (Statics tree) [] at.0 s) count
-      | inr s ↦ not_too_many tree ok dynamics at.0 (inr (inl refl)) (in_front (Dynamics tree) [] at.0 s) count
+    elim (includes_either (Statics tree) (Dynamics tree) at.0 (same_in at.0 (Both tree) at.2)) [
+      | inl s ↦ not_too_many tree ok statics at.0 (inl refl) (includes_front (Statics tree) [] at.0 s) count
+      | inr s ↦ not_too_many tree ok dynamics at.0 (inr (inl refl)) (includes_front (Dynamics tree) [] at.0 s) count
     ]
 
 at_most : (n : ℕ) → (4096 < n → ⊥) → n ≤ 4096

@@ -5,6 +5,7 @@ use Rattle.std.proofs.lemmas.Bool.Decides.{nat_tests, eqb_tells}
 use Rattle.std.specs.BTreeMap.{BTreeMap, get, is_at}
 use Rattle.std.specs.Map.{lookup}
 use Rattle.std.specs.Ordering.{nat_cmp}
+use Rattle.spot_terms.proofs.ListLemmas.{includes_front}
 use Rattle.spot_terms.specs.Lists.{Includes}
 use Rattle.spot_claims.specs.Tree.{Element}
 use Rattle.spot_claims.specs.Paths.{id_at}
@@ -14,7 +15,7 @@ use Rattle.scenario.specs.Table.{group_paths}
 use Rattle.scenario.specs.declared.known.Known.{Known}
 use Rattle.scenario.specs.declared.table.Group.{Group}
 use Rattle.scenario.specs.declared.table.Group.TheVariants.{Lanelets, Obstacles, Problems}
-use Rattle.scenario.proofs.Members.{in_front, in_last, in_more, any_in, none_in}
+use Rattle.scenario.proofs.Members.{in_last, in_more, any_in, none_in}
 
 -- ---- an element without an id
 
@@ -27,7 +28,7 @@ two_ids o k i e f = cc
 skip : (tree : List Element) (es : List ℕ) (x i : ℕ) (o : Option ℕ) → FirstIs tree es i o → id_at tree x ≡ None → FirstIs tree (es ++ x ∷ []) i o
 skip tree es x i None h none = λ d k e. elim (in_more es x d k) [ inl l ↦ h d l e | inr s ↦ no_both (id_at tree x) i none (ap (id_at tree) (sym s) ∙ e) ]
 skip tree es x i (Some p) h none = record {
-  listed = in_front es (x ∷ []) p h.listed;
+  listed = includes_front es (x ∷ []) p h.listed;
   id_is = h.id_is;
   least = λ d k e. elim (in_more es x d k) [ inl l ↦ h.least d l e | inr s ↦ absurd (no_both (id_at tree x) i none (ap (id_at tree) (sym s) ∙ e)) ];
 }
@@ -59,7 +60,7 @@ take_one tree es x i (Some p) h e =
     let least = lesser p x (nat_lt p x) refl in
     let P : ℕ → Type 0 = λ q. Includes (es ++ x ∷ []) q × (id_at tree q ≡ Some i) in
     let at : P (cond (nat_lt p x) p x) = elim least.2 [
-      | inl s ↦ subst P (sym s) (in_front es (x ∷ []) p h.listed, h.id_is)
+      | inl s ↦ subst P (sym s) (includes_front es (x ∷ []) p h.listed, h.id_is)
       | inr s ↦ subst P (sym s) (in_last es x, e)
     ] in
     record {
@@ -71,7 +72,7 @@ take_one tree es x i (Some p) h e =
 other : (tree : List Element) (es : List ℕ) (x k i : ℕ) (o : Option ℕ) → FirstIs tree es i o → id_at tree x ≡ Some k → (k ≡ i → ⊥) → FirstIs tree (es ++ x ∷ []) i o
 other tree es x k i None h has apart = λ d l e. elim (in_more es x d l) [ inl m ↦ h d m e | inr s ↦ apart (two_ids (id_at tree x) k i has (ap (id_at tree) (sym s) ∙ e)) ]
 other tree es x k i (Some p) h has apart = record {
-  listed = in_front es (x ∷ []) p h.listed;
+  listed = includes_front es (x ∷ []) p h.listed;
   id_is = h.id_is;
   least = λ d l e. elim (in_more es x d l) [ inl m ↦ h.least d m e | inr s ↦ absurd (apart (two_ids (id_at tree x) k i has (ap (id_at tree) (sym s) ∙ e))) ];
 }

@@ -1,41 +1,30 @@
 -- What is in a list.
 use Rattle.std.proofs.Common.{◌≡◌, ◌∙◌, ◌⊎◌, inl, inr, ℕ, zero, suc, ◌+◌, ◌<◌, ◌≤◌, List, [], ◌∷◌, ◌++◌, length, take, get_or, map, Option, Some, None, Bool, true, false, refl, sym, ap, subst, arith, IsTrue, ◌↔◌}
-use Rattle.std.specs.List.{AllByRecursion, filter, list_any, list_all, find}
+use Rattle.std.specs.List.{AllByRecursion, filter, filter_map, list_any, list_all, find}
 use Rattle.std.proofs.lemmas.List.{take_more, take_all}
 use Rattle.spot_terms.specs.Lists.{Includes, At, Pairwise}
-
-pub in_front : {X : Type 0} (xs ys : List X) (d : X) → Includes xs d → Includes (xs ++ ys) d
-in_front [] ys d h = absurd h
-in_front (x ∷ xs) ys d (inl e) = inl e
-in_front (x ∷ xs) ys d (inr h) = inr (in_front xs ys d h)
-
-pub in_back : {X : Type 0} (xs ys : List X) (d : X) → Includes ys d → Includes (xs ++ ys) d
-in_back [] ys d h = h
-in_back (x ∷ xs) ys d h = inr (in_back xs ys d h)
-
-pub in_either : {X : Type 0} (xs ys : List X) (d : X) → Includes (xs ++ ys) d → Includes xs d ⊎ Includes ys d
-in_either [] ys d h = inr h
-in_either (x ∷ xs) ys d (inl e) = inl (inl e)
-in_either (x ∷ xs) ys d (inr h) = elim (in_either xs ys d h) [ inl k ↦ inl (inr k) | inr k ↦ inr k ]
+use Rattle.spot_terms.proofs.ListLemmas.{includes_back, includes_either, includes_map}
 
 pub in_last : {X : Type 0} (xs : List X) (x : X) → Includes (xs ++ x ∷ []) x
-in_last xs x = in_back xs (x ∷ []) x (inl refl)
+in_last xs x = includes_back xs (x ∷ []) x (inl refl)
 
 pub in_more : {X : Type 0} (xs : List X) (x d : X) → Includes (xs ++ x ∷ []) d → Includes xs d ⊎ (d ≡ x)
-in_more xs x d h = elim (in_either xs (x ∷ []) d h) [ inl k ↦ inl k | inr k ↦ elim k [ inl e ↦ inr e | inr n ↦ absurd n ] ]
+in_more xs x d h = elim (includes_either xs (x ∷ []) d h) [ inl k ↦ inl k | inr k ↦ elim k [ inl e ↦ inr e | inr n ↦ absurd n ] ]
 
-pub in_taken : {X : Type 0} (xs : List X) (i : ℕ) (d e : X) → i < length xs → Includes (take (i + 1) xs) e → Includes (take i xs) e ⊎ (e ≡ get_or xs i d)
-in_taken xs i d e h k = let P : List _ → Type 0 = λ l. Includes l e in in_more (take i xs) (get_or xs i d) e (subst P (take_more xs i d h) k)
+in_filter_map_by : {X Y : Type 0} (f : X → Option Y) (x : X) (xs : List X) (y : Y) (o : Option Y) → f x ≡ o → Includes (filter_map f (x ∷ xs)) y → (f x ≡ Some y) ⊎ Includes (filter_map f xs) y
+in_filter_map_by f x xs y None e h = inr (rw e at h)
+in_filter_map_by f x xs y (Some z) e h = of_cons (rw e at h)
+  where
+    of_cons : (y ≡ z) ⊎ Includes (filter_map f xs) y → (f x ≡ Some y) ⊎ Includes (filter_map f xs) y
+    of_cons (inl s) = inl (e ∙ ap Some (sym s))
+    of_cons (inr k) = inr k
 
-pub in_map : {X Y : Type 0} (f : X → Y) (xs : List X) (y : Y) → Includes (map f xs) y → (x : X) × Includes xs x × (y ≡ f x)
-in_map f [] y h = absurd h
-in_map f (x ∷ xs) y (inl e) = (x, inl refl, e)
-in_map f (x ∷ xs) y (inr h) = let k = in_map f xs y h in (k.0, inr k.1, k.2)
-
-pub map_in : {X Y : Type 0} (f : X → Y) (xs : List X) (x : X) → Includes xs x → Includes (map f xs) (f x)
-map_in f [] x h = absurd h
-map_in f (y ∷ xs) x (inl e) = inl (ap f e)
-map_in f (y ∷ xs) x (inr h) = inr (map_in f xs x h)
+pub in_filter_map : {X Y : Type 0} (f : X → Option Y) (xs : List X) (y : Y) → Includes (filter_map f xs) y → (x : X) × Includes xs x × (f x ≡ Some y)
+in_filter_map f [] y h = absurd h
+in_filter_map f (x ∷ xs) y h = elim (in_filter_map_by f x xs y (f x) refl h) [
+  | inl e ↦ (x, inl refl, e)
+  | inr k ↦ let rest = in_filter_map f xs y k in (rest.0, inr rest.1, rest.2)
+]
 
 -- ---- a test that one of a list passes
 
@@ -66,7 +55,7 @@ item_in (x ∷ xs) zero d h = inl refl
 item_in (x ∷ xs) (suc i) d h = inr (item_in xs i d (omega arith))
 
 pub any_at : {X : Type 0} {Y : Type 0} (f : Y → X) (p : X → Bool) (xs : List Y) (i : ℕ) (d : Y) → i < length xs → p (f (get_or xs i d)) ≡ true → list_any p (map f xs) ≡ true
-any_at f p xs i d h e = any_in p (map f xs) (f (get_or xs i d)) (map_in f xs (get_or xs i d) (item_in xs i d h)) e
+any_at f p xs i d h e = any_in p (map f xs) (f (get_or xs i d)) (includes_map f xs (get_or xs i d) (item_in xs i d h)) e
 
 not_all_head : {X : Type 0} (p : X → Bool) (y : X) (ys : List X) → p y ≡ false → list_all p (y ∷ ys) ≡ false
 not_all_head p y ys e = rw e refl
@@ -81,7 +70,7 @@ not_all_in p (y ∷ ys) x (inl s) e = not_all_head p y ys (ap p (sym s) ∙ e)
 not_all_in p (y ∷ ys) x (inr h) e = not_all_tail p y ys (p y) refl (not_all_in p ys x h e)
 
 pub not_all_at : {X : Type 0} {Y : Type 0} (f : Y → X) (p : X → Bool) (xs : List Y) (i : ℕ) (d : Y) → i < length xs → p (f (get_or xs i d)) ≡ false → list_all p (map f xs) ≡ false
-not_all_at f p xs i d h e = not_all_in p (map f xs) (f (get_or xs i d)) (map_in f xs (get_or xs i d) (item_in xs i d h)) e
+not_all_at f p xs i d h e = not_all_in p (map f xs) (f (get_or xs i d)) (includes_map f xs (get_or xs i d) (item_in xs i d h)) e
 
 pub same_count : (b : Bool) (m n k : ℕ) → m ≡ n → (IsTrue b ↔ (m ≡ k)) → IsTrue b ↔ (n ≡ k)
 same_count b m n k e h = (λ t. sym e ∙ h.0 t, λ s. h.1 (e ∙ s))
@@ -147,6 +136,12 @@ pair_behind R s xs ys zs i d y h e p k =
 
 pub pair_end : {A B : Type 0} (R : A → B → Type 0) (xs : List A) (ys : List B) (i : ℕ) → length xs ≤ i → Pairwise R (take i xs) ys → Pairwise R xs ys
 pair_end R xs ys i h p = let P : List _ → Type 0 = λ l. Pairwise R l ys in subst P (take_all i xs h) p
+
+pub pair_append : {A B : Type 0} (R : A → B → Type 0) (xs us : List A) (ys vs : List B) → Pairwise R xs ys → Pairwise R us vs → Pairwise R (xs ++ us) (ys ++ vs)
+pair_append R [] us [] vs p q = q
+pair_append R [] us (y ∷ ys) vs p q = absurd p
+pair_append R (x ∷ xs) us [] vs p q = absurd p
+pair_append R (x ∷ xs) us (y ∷ ys) vs p q = (p.0, pair_append R xs us ys vs p.1 q)
 
 pub each_more : {A : Type 0} (P : A → Type 0) (xs ys : List A) (x : A) → ys ≡ xs ++ x ∷ [] → AllByRecursion P xs → P x → AllByRecursion P ys
 each_more P xs ys x e h k = let Q : List _ → Type 0 = λ l. AllByRecursion P l in subst Q (sym e) (each_last P xs x h k)

@@ -2,6 +2,7 @@
 use Rattle.std.proofs.Common.{◌≡◌, ◌∙◌, ◌⊎◌, inl, inr, ℕ, ◌+◌, ◌*◌, ◌-◌, ◌/◌, ◌<◌, ◌≤◌, min, max, ℤ, pos, List, [], ◌∷◌, ◌++◌, length, take, get_or, Option, Some, None, Bool, true, false, refl, sym, ap, subst, arith, mul-le-mul, take_all, codes, IfSome, IfNone, is_none}
 use Rattle.std.specs.List.{list_all}
 use Rattle.std.proofs.lemmas.List.{take_more}
+use Rattle.spot_terms.proofs.ListLemmas.{includes_front}
 use Rattle.spot_terms.specs.Lists.{Includes}
 use Rattle.spot_terms.specs.Whole.{square, IsRootCeiling}
 use Rattle.spot_terms.specs.Bodies.{IsLeast, IsGreatest}
@@ -15,7 +16,7 @@ use Rattle.scenario.specs.declared.shapes.Radii.{Radii}
 use Rattle.scenario.specs.declared.shapes.Part.{Part}
 use Rattle.scenario.specs.declared.shapes.Part.TheVariants.{Circle, Rectangle, Polygon}
 use Rattle.scenario.proofs.Unique.{holds_one, root_one, least_one}
-use Rattle.scenario.proofs.Members.{in_front, in_last, in_more, find_nothing}
+use Rattle.scenario.proofs.Members.{in_last, in_more, find_nothing}
 
 -- ---- distances
 
@@ -51,7 +52,7 @@ reach_more tree es i r d p h before at root =
         | inr s ↦ same_square tree x n p q (max r d * max r d) s at here (square_up d (square p.x + square p.y) (max r d) root.enough (omega arith))
       ];
       least = λ q all.
-          let a : r ≤ q = before.least q (λ n z l here. all n z (in_front (take i es) (x ∷ []) n l) here) in
+          let a : r ≤ q = before.least q (λ n z l here. all n z (includes_front (take i es) (x ∷ []) n l) here) in
           let b : d ≤ q = root.least q (all x p (in_last (take i es) x) at) in omega (arith, a, b);
     })
 
@@ -175,7 +176,7 @@ part_more part tree es i a o r h before at e =
     let Q : Option Radii → Type 0 = λ f. Greatest (PartOf (PartIs part tree) (take (i + 1) es)) f in
     subst Q (sym e) (subst P (sym (take_more es i 0 h)) (union (PartOf (PartIs part tree) xs) (PartIs part tree x) (PartOf (PartIs part tree) (xs ++ x ∷ [])) a (Some r) (record {
       split = split_part (PartIs part tree) xs x;
-      left = λ b s m. record { item = m.item; listed = in_front xs (x ∷ []) m.item m.listed; holds = m.holds };
+      left = λ b s m. record { item = m.item; listed = includes_front xs (x ∷ []) m.item m.listed; holds = m.holds };
       right = λ b s m. record { item = x; listed = in_last xs x; holds = m };
     }) before (single (PartIs part tree x) r at (λ c d m. part_one part tree x r.enclosing r.inscribed c d at m))))
 

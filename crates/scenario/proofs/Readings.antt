@@ -1,9 +1,10 @@
 -- What the reading of a text says of the checks of a number.
-use Rattle.std.proofs.Common.{◌≡◌, ◌∙◌, ◌⊎◌, inl, inr, ◌↔◌, ℕ, ◌*◌, ◌^◌, ◌≤◌, ℤ, pos, List, length, Bool, IsTrue, Option, Some, None, IfSome, IfNone, sym, subst, arith, nat_abs, ◌<ℤ◌, ◌≤ℤ◌, ap}
+use Rattle.std.proofs.Common.{◌≡◌, ◌∙◌, ◌⊎◌, inl, inr, ◌↔◌, ℕ, ◌*◌, ◌^◌, ◌≤◌, ℤ, pos, List, length, Bool, false, IsTrue, is_none, nat_lt, ◌||◌, Option, Some, None, IfSome, IfNone, sym, subst, arith, nat_abs, ◌<ℤ◌, ◌≤ℤ◌, ap}
 use Rattle.std.proofs.lemmas.Int.{ints, to_z-of_z}
 use mir.Val.{to_z, of_z}
 use mir.Syntax.{w64, w128}
-use Rattle.spot_terms.specs.Decimal.{Reads}
+use Rattle.std.proofs.lemmas.Bool.Decides.{nat_tests}
+use Rattle.spot_terms.specs.Decimal.{Reads, fraction_of}
 use Rattle.spot_claims.specs.Profile.{Number, IsTooLarge, IsOutside, IsUneven, is_bad_number}
 use Rattle.spot_terms.specs.Whole.{Within}
 use Rattle.scenario.specs.Has.{IsGood}
@@ -57,6 +58,15 @@ high_of n text z short h fits = elim (low_or z n.most) [
   | inl l ↦ l
   | inr out ↦ absurd (fits (inr (record { reading = z; reads = record { short = short; reads = h }; outside = inr out })))
 ]
+
+short_of : (n : ℕ) (b : Bool) → (nat_lt 64 n || b) ≡ false → n ≤ 64
+short_of n b h = grind (arith, nat_tests)
+
+-- a good number is in its range
+pub within_of : (n : Number) (text : List ℕ) (z : ℤ) → IsGood n text → Reads n.places text z → Within n.least n.most z
+within_of n text z good h =
+    let short : length text ≤ 64 = short_of (length text) (is_none (fraction_of text)) good.good in
+    record { low = low_of n text z short h good.fits; high = high_of n text z short h good.fits }
 
 -- the same as the code holds it in fewer bits
 pub held_less : (z : ℤ) → nat_abs z ≤ 10 ^ 18 → to_z w64 (of_z w64 (to_z w128 (of_z w128 z))) ≡ z

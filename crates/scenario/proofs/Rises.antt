@@ -1,18 +1,20 @@
 -- Children in order, and lanelets by their ids.
+use Rattle.spot_terms.specs.Ranges.{IsLaneInRange}
 use Rattle.std.proofs.Common.{◌≡◌, ◌∙◌, ◌⊎◌, inl, inr, ℕ, zero, suc, ◌+◌, ◌<◌, ◌≤◌, List, [], ◌∷◌, ◌++◌, length, take, get_or, Some, None, Bool, true, false, cond, refl, sym, ap, subst, arith, nat_eq, codes, append-nil, take_all}
 use Rattle.std.specs.List.{filter}
 use Rattle.std.specs.Map.{lookup}
 use Rattle.std.proofs.lemmas.Bool.Decides.{eqb_tells}
 use Rattle.std.proofs.lemmas.List.Elements.{filter_more}
+use Rattle.spot_terms.proofs.ListLemmas.{includes_front}
 use Rattle.spot_terms.specs.Lists.{Includes, Pairwise}
 use Rattle.spot_terms.specs.declared.scenario.RawLane.{RawLane}
 use Rattle.spot_claims.specs.Tree.{Element, Rising, is_called, all_named}
 use Rattle.spot_claims.specs.Paths.{at_path, lanelets, id_at}
 use Rattle.spot_claims.specs.Profile.{IsAccepted}
 use Rattle.spot_claims.specs.Scenario.{IsLane}
-use Rattle.scenario.specs.Lanes.{IsLaneInRange, AddsLane, AreInRange}
+use Rattle.scenario.specs.Lanes.{AddsLane, AreInRange}
 use Rattle.scenario.proofs.Accepts.{not_again}
-use Rattle.scenario.proofs.Members.{in_front, pair_more, each_more}
+use Rattle.scenario.proofs.Members.{pair_more, each_more}
 
 -- ---- numbers that rise
 
@@ -85,7 +87,7 @@ abbrev pub IsLanelet : List Element → ℕ → Bool
 IsLanelet tree = is_called tree (codes "lanelet")
 
 pub lanelet_in : (tree : List Element) (e : ℕ) → Includes (all_named tree (codes "lanelet") 0) e → Includes (at_path tree lanelets) e
-lanelet_in tree e h = in_front (all_named tree (codes "lanelet") 0) [] e h
+lanelet_in tree e h = includes_front (all_named tree (codes "lanelet") 0) [] e h
 
 pub fresh_lane : (tree : List Element) → IsAccepted tree → (cs : List ℕ) (n i : ℕ) (entries : List (ℕ × RawLane)) → ((x : ℕ) → Includes (filter (IsLanelet tree) cs) x → Includes (at_path tree lanelets) x) → Rising 0 cs → n < length cs → IsLanelet tree (get_or cs n 0) ≡ true
     → Includes (at_path tree lanelets) (get_or cs n 0) → id_at tree (get_or cs n 0) ≡ Some i → Pairwise (IsLane tree) (filter (IsLanelet tree) (take n cs)) entries → lookup (nat_eq i) entries ≡ None

@@ -20,7 +20,7 @@ use Rattle.spot_claims.specs.Scenario.{HoldsExact, HoldsPosition, IsPair, IsLane
 of_some : {A : Type 0} (a b : A) → Some a ≡ Some b → a ≡ b
 of_some a b e = cc
 
-both_some : {A : Type 0} (o : Option A) (a b : A) → o ≡ Some a → o ≡ Some b → a ≡ b
+pub both_some : {A : Type 0} (o : Option A) (a b : A) → o ≡ Some a → o ≡ Some b → a ≡ b
 both_some o a b e f = of_some a b (sym e ∙ f)
 
 -- a relation that determines its second item

@@ -1,8 +1,8 @@
 -- What is read of lanelets.
-use Rattle.std.specs.Prelude.{◌≡◌, ◌≤◌, ◌++◌, ℕ, ℤ, List, [], ◌∷◌, Option, length, codes}
+use Rattle.std.specs.Prelude.{◌≡◌, ◌++◌, ℕ, List, [], ◌∷◌, Option, codes}
 use Rattle.std.specs.List.{AllByRecursion}
 use Rattle.spot_terms.specs.Lists.{Pairwise}
-use Rattle.spot_terms.specs.Whole.{SizeAtMost}
+use Rattle.spot_terms.specs.Ranges.{IsLaneInRange}
 use Rattle.spot_terms.specs.declared.scenario.RawLane.{RawLane}
 use Rattle.spot_claims.specs.Tree.{Element}
 use Rattle.spot_claims.specs.Scenario.{IsPair, IsLane, bound_points, reference_at, references, neighbour_at, neighbours}
@@ -20,17 +20,6 @@ pub record IsLaneAt (tree : List Element) (e : ℕ) (l : RawLane) : Type 0 where
   pub successors : l.successors ≡ references tree (codes "successor") e
   pub predecessors : l.predecessors ≡ references tree (codes "predecessor") e
   pub sides : l.sides ≡ neighbours tree (codes "adjacentLeft") e ++ neighbours tree (codes "adjacentRight") e
-
-pub record IsPairInRange (p : ℤ × ℤ) : Type 0 where
-  pub x : SizeAtMost 10_000_000_000_000 p.0
-  pub y : SizeAtMost 10_000_000_000_000 p.1
-
--- a lanelet of which a network can be built: bounds of as many points, at least 2, at most 10^13 in size
-pub record IsLaneInRange (l : RawLane) : Type 0 where
-  pub even : length l.left ≡ length l.right
-  pub some : 2 ≤ length l.left
-  pub left : AllByRecursion IsPairInRange l.left
-  pub right : AllByRecursion IsPairInRange l.right
 
 -- the entries are followed by one more, which is the lanelet of e
 pub record AddsLane (tree : List Element) (e : ℕ) (before after : List (ℕ × RawLane)) : Type 0 where

@@ -1,5 +1,4 @@
 pub mod Answers
-pub mod Digits
 pub mod Fault
 pub mod Has
 pub mod Kinds

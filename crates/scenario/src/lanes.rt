@@ -9,7 +9,8 @@ ghost use Rattle.spot_claims.specs.Profile.{IsAccepted};
 ghost use Rattle.spot_claims.specs.Scenario.{IsPair, IsLane, below, reference_at as the_reference_at};
 ghost use Rattle.scenario.specs.Table.{step_of};
 ghost use Rattle.scenario.specs.Has.{HasPoints, HasLane};
-ghost use Rattle.scenario.specs.Lanes.{link_of, IsPairInRange, IsLaneAt, IsLaneInRange, AddsLane, AreInRange};
+ghost use Rattle.spot_terms.specs.Ranges.{IsLaneInRange, IsPairInRange};
+ghost use Rattle.scenario.specs.Lanes.{link_of, IsLaneAt, AddsLane, AreInRange};
 
 use crate::known::id_at as id_of_element;
 use crate::numbers::read_id;

@@ -1,6 +1,7 @@
 //! The scenario of an element tree.
 #![tactic(auto)]
 
+ghost use Rattle.spot_claims.specs.Profile.{TreeHasOneRefusal};
 ghost use Rattle.spot_claims.specs.Scenario.{TreeHasOneScenario};
 
 mod checks;
@@ -17,10 +18,17 @@ mod walk;
 
 pub use read::{ReadFault, read_scenario};
 
+/// A tree that bytes say has one refusal at most: one place, and one code there.
+pub fn a_tree_has_one_refusal()
+    ensures { TreeHasOneRefusal }
+{}
+
 /// A tree has one scenario at most.
 pub fn a_tree_has_one_scenario()
     ensures { TreeHasOneScenario }
 {}
 
+#[cfg(test)]
+mod refusals;
 #[cfg(test)]
 mod tests;

@@ -3,11 +3,10 @@ ghost use Rattle.std.specs.Prelude.{◌≡◌, ◌⊎◌, ◌↔◌, ℕ, ◌*�
 ghost use Rattle.spot_terms.specs.Decimal.{Reads};
 ghost use Rattle.spot_claims.specs.Paths.{id_of};
 ghost use Rattle.spot_claims.specs.Profile.{is_bad_number as is_bad, IsTooLarge, IsOutside, IsUneven};
-ghost use Rattle.scenario.specs.Digits.{digits_of};
 ghost use Rattle.scenario.specs.Table.{number_of};
 
 use crate::table::Number;
-use spot_decimal::{NumberFault, read_decimal};
+use spot_decimal::{NumberFault, read_decimal, read_digits};
 
 /// The most digits of an id.
 const MOST_DIGITS: usize = 10;
@@ -21,21 +20,6 @@ const MOST_STEP_SIZE: i128 = 1_000_000;
 /// The millionths of a second in a tick.
 const TICK: u32 = 1_000;
 
-/// The value of at most ten bytes, exactly where all are digits.
-fn value_of(text: &[u8]) -> Option<u64>
-    requires { length text.now ≤ 10 }
-    ensures { result ≡ digits_of text.now }
-{
-    let mut value: u64 = 0;
-    for b in text {
-        if !b.is_ascii_digit() {
-            return None;
-        }
-        value = value * 10 + u64::from(*b - b'0');
-    }
-    Some(value)
-}
-
 /// The id that a text stands for: one to ten digits, for a number of at most 4,294,967,295.
 pub(crate) fn read_id(text: &str) -> Option<u32>
     ensures { result ≡ id_of text.now }
@@ -44,7 +28,7 @@ pub(crate) fn read_id(text: &str) -> Option<u32>
     if bytes.is_empty() || bytes.len() > MOST_DIGITS {
         return None;
     }
-    let value = value_of(bytes)?;
+    let value = read_digits(bytes)?;
     if value <= u64::from(u32::MAX) {
         Some(value as u32)
     } else {

@@ -1,6 +1,6 @@
+use Rattle.spot_terms.specs.Ranges.{IsPairInRange}
 use Rattle.std.proofs.Common.{get_or, arith}
 use Rattle.spot_claims.specs.Scenario.{IsPair}
-use Rattle.scenario.specs.Lanes.{IsPairInRange}
 use Rattle.scenario.proofs.Facts.{pair_is, pair_in, size_of}
 use Rattle.scenario.proofs.Members.{item_in, pair_taken, each_more}
 use Rattle.scenario.proofs.Readings.{held_in}

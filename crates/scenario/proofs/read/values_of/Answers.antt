@@ -2,6 +2,9 @@ use Rattle.std.proofs.Common.{arith}
 use Rattle.spot_claims.specs.Scenario.{IsMover, IsFixed}
 use Rattle.spot_claims.specs.Paths.{at_path, statics, dynamics}
 use Rattle.scenario.proofs.Facts.{pair_length}
+use Rattle.scenario.proofs.Ids.{unique_ids}
+use Rattle.scenario.proofs.States.{states_in_range}
+use Rattle.scenario.proofs.Totals.{few_recorded, few_held}
 use Rattle.scenario.proofs.read.values_of.Goals as goal
 
 pub returns-clause-in_range : goal.returns-clause-in_range
@@ -16,3 +19,15 @@ returns-clause-in_range c =
       fixed = c.in_ok-fixed_in.ensures.within;
       problems = c.in_ok-problems_in.ensures.within;
     }
+
+pub returns-clause-recorded : goal.returns-clause-recorded
+returns-clause-recorded c = states_in_range c.args.tree.now c.requires c.in_ok-movers_in.field-0 c.in_ok-movers_in.ensures.are
+
+pub returns-clause-ids : goal.returns-clause-ids
+returns-clause-ids c = unique_ids c.args.tree.now c.requires c.is_tree.ensures _ c.in_ok-lanes_of.ensures.are c.in_ok-movers_in.ensures.are c.in_ok-fixed_in.ensures.are c.in_ok-problems_in.ensures.are
+
+pub returns-clause-few : goal.returns-clause-few
+returns-clause-few c = record {
+  recorded = few_recorded c.args.tree.now c.is_tree.ensures c.in_ok-movers_in.field-0 c.in_ok-problems_in.field-0 c.in_ok-movers_in.ensures.are c.in_ok-problems_in.ensures.are;
+  lanes = few_held c.args.tree.now c.is_tree.ensures _ c.in_ok-lanes_of.ensures.are;
+}
