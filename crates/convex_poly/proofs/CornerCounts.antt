@@ -7,8 +7,7 @@ use lib.Signed.{◌<ℤ◌}
 use Rattle.spot_terms.specs.declared.plain.Pt.{Pt}
 use Rattle.spot_terms.specs.Hull.{Before, IsCornerList, IsHullOf}
 use Rattle.spot_terms.specs.Lists.{Includes}
-use Rattle.spot_terms.proofs.Hulls.{all_of}
-use Rattle.spot_terms.proofs.ListLemmas.{all_included}
+use Rattle.spot_terms.proofs.ListLemmas.{all_included, all_of}
 use Rattle.spot_terms.proofs.Ring.{ring, Exp, var, ◌⊕◌, ◌⊖◌, ◌⊗◌}
 use Rattle.convex_poly.specs.Chains.{key}
 use Rattle.convex_poly.specs.Polygons.{IsPosition}

@@ -7,11 +7,11 @@ use lib.Signed.{◌≤ℤ◌, ◌<ℤ◌}
 use Rattle.spot_terms.specs.declared.plain.Pt.{Pt}
 use Rattle.spot_terms.specs.Lists.{Includes}
 use Rattle.spot_terms.specs.Hull.{InHull, whole_pt, Before, IsLeftOf, edges_to, IsCornerList}
-use Rattle.spot_terms.proofs.ListLemmas.{all_included}
+use Rattle.spot_terms.proofs.ListLemmas.{all_included, all_later, includes_itself}
 use Rattle.spot_terms.proofs.Products.{square_not_negative}
 use Rattle.spot_terms.proofs.Ring.{ring, var, num}
 use Rattle.spot_terms.proofs.Mixes.{Affine}
-use Rattle.spot_terms.proofs.Hulls.{mix_hull, hull_not_below, hull_subset, hull_first, includes_itself, all_later}
+use Rattle.spot_terms.proofs.Hulls.{mix_hull, hull_not_below, hull_subset, hull_first}
 use Rattle.convex_poly.specs.Turns.{cross, inner, EdgesLeft, ClosingLeft, IsOn}
 use Rattle.convex_poly.proofs.Crosses.{inner_exp, cross_affine, inner_affine, cross_turn, cross_swap, cross_first, cross_second, cross_parts, cross_weighs_x, cross_weighs_y, inner_weighs_x, inner_weighs_y, inner_parts}
 use Rattle.convex_poly.proofs.Places.{all_map, same_index, compare3}

@@ -7,7 +7,7 @@ use lib.Signed.{◌<ℤ◌}
 use Rattle.spot_terms.specs.declared.plain.Pt.{Pt}
 use Rattle.spot_terms.specs.Hull.{edges, edges_to, IsCornerList}
 use Rattle.spot_terms.specs.Lists.{Includes, Pairwise}
-use Rattle.spot_terms.proofs.Hulls.{includes_itself}
+use Rattle.spot_terms.proofs.ListLemmas.{includes_itself}
 use Rattle.convex_poly.specs.Pivots.{turn_of, along}
 use Rattle.convex_poly.specs.Polygons.{IsPosition}
 use Rattle.convex_poly.proofs.Chains.{positive_product, positive_part}

@@ -6,7 +6,7 @@ use lib.Signed.{◌≤ℤ◌, ◌<ℤ◌}
 use Rattle.spot_terms.specs.declared.plain.Pt.{Pt}
 use Rattle.spot_terms.specs.Lists.{Includes}
 use Rattle.spot_terms.specs.Hull.{FractionPt, InHullAt}
-use Rattle.spot_terms.proofs.ListLemmas.{includes_front, includes_back}
+use Rattle.spot_terms.proofs.ListLemmas.{includes_front, includes_back, includes_either}
 use Rattle.spot_terms.proofs.Hulls.{hull_mix_at, mix_hull_at}
 use Rattle.spot_terms.proofs.Mixes.{mix_to, positive_times}
 use Rattle.spot_terms.proofs.Ring.{ring, var, num, ◌⊖◌, ◌⊗◌}
@@ -93,11 +93,6 @@ difference_included [] b p q i j = absurd i
 difference_included (r ∷ a) b p q (inl e) j = includes_front (each_minus r b) (differences a b) (minus p q) (subst (λ (z : Pt). Includes (each_minus r b) (minus z q)) (sym e) (each_included r q b j))
 difference_included (r ∷ a) b p q (inr i) j = includes_back (each_minus r b) (differences a b) (minus p q) (difference_included a b p q i j)
 
-in_either : (us vs : List Pt) (u : Pt) → Includes (us ++ vs) u → Includes us u ⊎ Includes vs u
-in_either [] vs u i = inr i
-in_either (x ∷ us) vs u (inl e) = inl (inl e)
-in_either (x ∷ us) vs u (inr i) = elim (in_either us vs u i) [ inl h ↦ inl (inr h) | inr h ↦ inr h ]
-
 each_holds : (P : Pt → Type 0) (p : Pt) (b : List Pt) → ((q : Pt) → Includes b q → P (minus p q)) → (u : Pt) → Includes (each_minus p b) u → P u
 each_holds P p [] h u i = absurd i
 each_holds P p (q ∷ b) h u (inl e) = subst P (sym e) (h q (inl refl))
@@ -106,7 +101,7 @@ each_holds P p (q ∷ b) h u (inr i) = each_holds P p b (λ r j. h r (inr j)) u 
 -- what holds of the difference of each two points holds of each difference
 pub differences_hold : (P : Pt → Type 0) (a b : List Pt) → ((p q : Pt) → Includes a p → Includes b q → P (minus p q)) → (u : Pt) → Includes (differences a b) u → P u
 differences_hold P [] b h u i = absurd i
-differences_hold P (p ∷ a) b h u i = elim (in_either (each_minus p b) (differences a b) u i) [
+differences_hold P (p ∷ a) b h u i = elim (includes_either (each_minus p b) (differences a b) u i) [
   | inl j ↦ each_holds P p b (λ q k. h p q (inl refl) k) u j
   | inr j ↦ differences_hold P a b (λ r q k l. h r q (inr k) l) u j
 ]
@@ -123,4 +118,13 @@ disjoint_pivot (p ∷ a) [] h k d = absurd (omega arith)
 disjoint_pivot (p ∷ a) (q ∷ b) h k d = elim (pivot_or_meets (minus p q) (each_minus p b ++ differences a (q ∷ b))) [
   | inl v ↦ (v.0, λ r i s j. v.1.all (minus r s) (difference_included (p ∷ a) (q ∷ b) r s i j))
   | inr m ↦ absurd (let c = meets_common (p ∷ a) (q ∷ b) m in d c.p c.whole c.in_a c.in_b)
+]
+
+-- two lists are disjoint, or 0 is in the hull of their differences
+pub disjoint_or_meets : (a b : List Pt) → 0 < length a → 0 < length b → AreDisjoint a b ⊎ Meets0 (differences a b)
+disjoint_or_meets [] b h k = absurd (omega arith)
+disjoint_or_meets (p ∷ a) [] h k = absurd (omega arith)
+disjoint_or_meets (p ∷ a) (q ∷ b) h k = elim (pivot_or_meets (minus p q) (each_minus p b ++ differences a (q ∷ b))) [
+  | inl v ↦ inl (leftwards_disjoint (p ∷ a) (q ∷ b) v.0 (λ r i s j. v.1.all (minus r s) (difference_included (p ∷ a) (q ∷ b) r s i j)))
+  | inr m ↦ inr m
 ]

@@ -60,11 +60,11 @@ edge_end [] e i = absurd i
 edge_end (a ∷ vs) e i = elim (end_in a (a ∷ vs) e i) [ inl j ↦ j | inr h ↦ inl h ]
 
 -- each corner is an end of each edge, or left of it
-beside : (vs : List Pt) → IsCornerList vs → (e : Pt × Pt) → Includes (edges vs) e → (c : Pt) → Includes vs c → IsBeside c e
+pub beside : (vs : List Pt) → IsCornerList vs → (e : Pt × Pt) → Includes (edges vs) e → (c : Pt) → Includes vs c → IsBeside c e
 beside [] h e i c j = absurd h
 beside (a ∷ vs) h e i c j = all_included (λ c. IsBeside c e) (a ∷ vs) c (all_included (λ e. AllByRecursion (λ c. IsBeside c e) (a ∷ vs)) (edges_to a (a ∷ vs)) e h.1 i) j
 
-left_of : (vs : List Pt) → IsCornerList vs → (e : Pt × Pt) → Includes (edges vs) e → (c : Pt) → Includes vs c → pos 0 ≤ℤ cross e.0 e.1 c
+pub left_of : (vs : List Pt) → IsCornerList vs → (e : Pt × Pt) → Includes (edges vs) e → (c : Pt) → Includes vs c → pos 0 ≤ℤ cross e.0 e.1 c
 left_of [] h e i c j = absurd h
 left_of (a ∷ vs) h e i c j = all_included (λ c. pos 0 ≤ℤ cross e.0 e.1 c) (a ∷ vs) c (edge_left a vs h e i) j
 

@@ -11,13 +11,12 @@ use Rattle.std.specs.Prelude.{nat_abs, reverse}
 use Rattle.spot_terms.specs.declared.plain.Pt.{Pt}
 use Rattle.spot_terms.specs.Hull.{Before, InHull, IsHullOf}
 use Rattle.spot_terms.specs.Lists.{Includes}
-use Rattle.spot_terms.proofs.Hulls.{hull_first, all_of}
-use Rattle.spot_terms.proofs.ListLemmas.{all_included, includes_front, includes_back}
+use Rattle.spot_terms.proofs.Hulls.{hull_first}
 use Rattle.std.specs.List.Sorted.{IsPermutation}
 use Rattle.convex_poly.specs.Polygons.{IsPosition, IsPolygon}
 use Rattle.convex_poly.proofs.Orders.{permuted_in, permuted_all}
 use Rattle.convex_poly.specs.Chains.{key, Rising, Toward, IsChain, IsOrdered, between_ends}
-use Rattle.convex_poly.proofs.Normals.{includes_at}
+use Rattle.spot_terms.proofs.ListLemmas.{all_included, all_of, includes_at, includes_back, includes_front}
 use Rattle.convex_poly.proofs.Places.{all_at, place_of, order}
 use Rattle.convex_poly.proofs.Chains.{Loop, loop_turns, neg_key, key_neg}
 use Rattle.convex_poly.proofs.ChainSteps.{chains_hull, all_append}

@@ -9,17 +9,10 @@ use Rattle.spot_terms.proofs.Mixes.{not_below_times}
 use Rattle.spot_terms.proofs.Products.{square_not_negative}
 use Rattle.spot_terms.proofs.Ring.{ring, Exp, var, num, ◌⊕◌, ◌⊖◌, ◌⊗◌}
 use Rattle.convex_poly.specs.Pivots.{minus, turn_of, along, IsLeftwards, AreLeftwards, LeansTo}
-use Rattle.convex_poly.proofs.Ways.{weak}
+use Rattle.convex_poly.proofs.Ways.{weak, above_times}
 use Rattle.convex_poly.proofs.Disjoint.{part_ok}
-use Rattle.convex_poly.proofs.Normals.{includes_at}
+use Rattle.spot_terms.proofs.ListLemmas.{includes_at}
 use Rattle.convex_poly.proofs.Places.{same_index, place_of}
-
-above_times : (a b : ℤ) → pos 0 <ℤ a → pos 0 <ℤ b → pos 0 <ℤ (a *ℤ b)
-above_times (pos (suc a)) (pos (suc b)) h k = omega (arith, ints)
-above_times (pos zero) b h k = absurd (omega (arith, ints))
-above_times (negsuc a) b h k = absurd (omega (arith, ints))
-above_times (pos (suc a)) (pos zero) h k = absurd (omega (arith, ints))
-above_times (pos (suc a)) (negsuc b) h k = absurd (omega (arith, ints))
 
 leftwards_turn : (v r : Pt) → IsLeftwards v r → pos 0 ≤ℤ turn_of v r
 leftwards_turn v r (inl h) = weak (turn_of v r) h

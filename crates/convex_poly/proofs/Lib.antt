@@ -1,4 +1,3 @@
-pub mod Normals
 pub mod Pairs
 pub mod Places
 pub mod Wide
@@ -16,6 +15,7 @@ pub mod HullCorners
 pub mod RunSteps
 pub mod RunRows
 pub mod Ways
+pub mod Rays
 pub mod Pivots
 pub mod Differences
 pub mod Disjoint

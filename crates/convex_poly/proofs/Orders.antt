@@ -6,7 +6,7 @@ use Rattle.std.specs.List.Sorted.{IsPermutation, apply_swaps}
 use Rattle.std.proofs.lemmas.List.Sorted.{IsPermutation-sym}
 use Rattle.std.proofs.lemmas.Grind.{get_or_moved}
 use Rattle.spot_terms.specs.Lists.{Includes}
-use Rattle.convex_poly.proofs.Normals.{includes_at}
+use Rattle.spot_terms.proofs.ListLemmas.{includes_at}
 use Rattle.convex_poly.proofs.Places.{all_by_index}
 use Rattle.std.proofs.lemmas.Int.{ints}
 use Rattle.std.proofs.lemmas.List.{take-append-le}

@@ -9,9 +9,8 @@ use lib.Signed.{◌≤ℤ◌, ◌<ℤ◌}
 use Rattle.spot_terms.specs.declared.plain.Pt.{Pt}
 use Rattle.spot_terms.specs.Lists.{Includes}
 use Rattle.spot_terms.specs.Hull.{Before}
-use Rattle.spot_terms.proofs.ListLemmas.{includes_front, includes_back}
 use Rattle.convex_poly.specs.Chains.{IsInOrder, IsOrdered}
-use Rattle.convex_poly.proofs.Normals.{includes_at}
+use Rattle.spot_terms.proofs.ListLemmas.{includes_at, includes_back, includes_front}
 use Rattle.convex_poly.proofs.Places.{same_index, all_by_index, order}
 use Rattle.convex_poly.proofs.Corners.{pt_same}
 use Rattle.convex_poly.proofs.ChainSteps.{all_append}

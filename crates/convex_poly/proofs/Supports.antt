@@ -7,7 +7,7 @@ use lib.Signed.{◌≤ℤ◌}
 use Rattle.spot_terms.specs.declared.plain.Pt.{Pt}
 use Rattle.spot_terms.specs.Lists.{Includes}
 use Rattle.spot_terms.specs.Hull.{dot, IsSupport}
-use Rattle.convex_poly.proofs.Normals.{includes_at}
+use Rattle.spot_terms.proofs.ListLemmas.{includes_at}
 use Rattle.convex_poly.proofs.Places.{same_index, place_of, compare3}
 
 -- g is the greatest value of the first i corners, and a corner has it

@@ -10,8 +10,7 @@ use lib.Signed.{◌≤ℤ◌, ◌<ℤ◌}
 use Rattle.spot_terms.specs.declared.plain.Pt.{Pt}
 use Rattle.convex_poly.specs.Turns.{cross, TurnsLeft}
 use Rattle.convex_poly.specs.Chains.{key, Rising, Toward, KeepsFront, HasDent}
-use Rattle.spot_terms.proofs.ListLemmas.{includes_back}
-use Rattle.convex_poly.proofs.Normals.{includes_at}
+use Rattle.spot_terms.proofs.ListLemmas.{includes_at, includes_back}
 use Rattle.convex_poly.proofs.Places.{all_by_index, all_map, same_index, order}
 use Rattle.convex_poly.proofs.Chains.{push_turns}
 use Rattle.convex_poly.proofs.Sides.{toward_flat, toward_included, middle_toward}

@@ -74,3 +74,11 @@ flat_rel u v r h = record {
 
 pub weak : (z : ℤ) → pos 0 <ℤ z → pos 0 ≤ℤ z
 weak z h = omega (arith, ints)
+
+-- a product of numbers above 0 is above 0
+pub above_times : (a b : ℤ) → pos 0 <ℤ a → pos 0 <ℤ b → pos 0 <ℤ (a *ℤ b)
+above_times (pos (suc a)) (pos (suc b)) h k = omega (arith, ints)
+above_times (pos zero) b h k = absurd (omega (arith, ints))
+above_times (negsuc a) b h k = absurd (omega (arith, ints))
+above_times (pos (suc a)) (pos zero) h k = absurd (omega (arith, ints))
+above_times (pos (suc a)) (negsuc b) h k = absurd (omega (arith, ints))

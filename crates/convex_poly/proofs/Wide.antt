@@ -25,8 +25,8 @@ product_is_exact a b fa fb h k =
     rw (to_z-of_z w128 a fa, to_z-of_z w128 b fb) (to_z-of_z w128 (a *ℤ b) (product_fits a b h k))
 
 -- what a call that is handed two numbers says of their product
-pub times_of : (r a b x y : ℤ) → r ≡ to_z w128 (of_z w128 a) *ℤ to_z w128 (of_z w128 b) → FitsSigned w128 a → FitsSigned w128 b → a ≡ x → b ≡ y → r ≡ x *ℤ y
-times_of r a b x y e fa fb h k = e ∙ rw (to_z-of_z w128 a fa, to_z-of_z w128 b fb, h, k) refl
+pub times_of : (r a b x y : ℤ) → r ≡ to_z w64 (of_z w64 a) *ℤ to_z w64 (of_z w64 b) → FitsSigned w64 a → FitsSigned w64 b → a ≡ x → b ≡ y → r ≡ x *ℤ y
+times_of r a b x y e fa fb h k = e ∙ rw (to_z-of_z w64 a fa, to_z-of_z w64 b fb, h, k) refl
 
 -- a difference of products, as the code computes it
 pub minus_of : (r s x y : ℤ) → nat_abs r ≤ 10000000000000000000000000000 → nat_abs s ≤ 10000000000000000000000000000 → r ≡ x → s ≡ y → to_z w128 (of_z w128 (to_z w128 (of_z w128 r) -ℤ to_z w128 (of_z w128 s))) ≡ x -ℤ y
@@ -105,13 +105,13 @@ pub between_back_up : (z lo hi : ℤ) → nat_abs lo ≤ 40000000000000 → nat_
 between_back_up z lo hi h k l u = omega (arith, ints)
 
 -- ---- the fall of an edge
-pub fall_above : (r a b : ℤ) → nat_abs a ≤ 40000000000000 → nat_abs b ≤ 40000000000000 → r ≡ b -ℤ a → r <ℤ pos 0 → pos 0 <ℤ to_z w128 (of_z w128 (pos 0 -ℤ to_z w128 (of_z w128 r)))
+pub fall_above : (r a b : ℤ) → nat_abs a ≤ 40000000000000 → nat_abs b ≤ 40000000000000 → r ≡ b -ℤ a → r <ℤ pos 0 → pos 0 <ℤ to_z w64 (of_z w64 (pos 0 -ℤ to_z w64 (of_z w64 r)))
 fall_above r a b h k e l = omega (arith, ints)
 
-pub fall_size : (r a b : ℤ) → nat_abs a ≤ 40000000000000 → nat_abs b ≤ 40000000000000 → r ≡ b -ℤ a → nat_abs (to_z w128 (of_z w128 (pos 0 -ℤ to_z w128 (of_z w128 r)))) ≤ 100000000000000
+pub fall_size : (r a b : ℤ) → nat_abs a ≤ 40000000000000 → nat_abs b ≤ 40000000000000 → r ≡ b -ℤ a → nat_abs (to_z w64 (of_z w64 (pos 0 -ℤ to_z w64 (of_z w64 r)))) ≤ 100000000000000
 fall_size r a b h k e = omega (arith, ints)
 
-pub minus_back : (r a b : ℤ) → nat_abs a ≤ 40000000000000 → nat_abs b ≤ 40000000000000 → r ≡ b -ℤ a → to_z w128 (of_z w128 (pos 0 -ℤ r)) ≡ a -ℤ b
+pub minus_back : (r a b : ℤ) → nat_abs a ≤ 40000000000000 → nat_abs b ≤ 40000000000000 → r ≡ b -ℤ a → to_z w64 (of_z w64 (pos 0 -ℤ r)) ≡ a -ℤ b
 minus_back r a b h k e = omega (arith, ints)
 
 pub level_way : (r a b : ℤ) → r ≡ b -ℤ a → r ≡ pos 0 → a ≡ b
@@ -120,6 +120,6 @@ level_way r a b e f = omega (arith, ints)
 pub minus_size : (r s : ℤ) → nat_abs r ≤ 10000000000000000000000000000 → nat_abs s ≤ 10000000000000000000000000000 → nat_abs (to_z w128 (of_z w128 (to_z w128 (of_z w128 r) -ℤ to_z w128 (of_z w128 s)))) ≤ 20000000000000000000000000000
 minus_size r s h k = omega (arith, ints)
 
--- the difference of two coordinates, as the code computes it
-pub apart_is : (a b : ℤ) → nat_abs a ≤ 40000000000000 → nat_abs b ≤ 40000000000000 → to_z w64 (of_z w64 (to_z w64 (of_z w64 a) -ℤ to_z w64 (of_z w64 b))) ≡ a -ℤ b
-apart_is a b h k = omega (arith, ints)
+-- a way between two coordinates, as the code reads it back
+pub way_back : (r a b : ℤ) → nat_abs a ≤ 40000000000000 → nat_abs b ≤ 40000000000000 → r ≡ to_z w64 (of_z w64 b) -ℤ to_z w64 (of_z w64 a) → to_z w64 (of_z w64 r) ≡ b -ℤ a
+way_back r a b h k e = omega (arith, ints)

@@ -1,13 +1,13 @@
 //! Whether two hulls have no common point: whether one of the ways from a point of the second to a point of the first has
 //! all others on its left side, or in its direction.
-ghost use Rattle.std.specs.Prelude.{◌≡◌, ◌↔◌, ◌<◌, ◌*ℤ◌, IsTrue, length};
+ghost use Rattle.std.specs.Prelude.{◌≡◌, ◌↔◌, ◌<◌, IsTrue, length};
 ghost use Rattle.std.specs.List.{AllByRecursion};
 ghost use Rattle.spot_terms.specs.Lists.{Includes};
-ghost use Rattle.spot_terms.specs.Whole.{SizeAtMost};
 ghost use Rattle.spot_terms.specs.declared.plain.Pt.{Pt as Point};
-ghost use Rattle.convex_poly.specs.Pivots.{along as along_of, minus, turn_of, AreDisjoint, AreLeftwards, IsLeftwards, IsWay, LeansTo};
+ghost use Rattle.convex_poly.specs.Pivots.{minus, AreDisjoint, AreLeftwards, IsLeftwards, IsWay, LeansTo};
 ghost use Rattle.convex_poly.specs.Polygons.{IsPosition};
 
+use crate::turns::{along, difference, turn};
 use spot_terms::Pt;
 
 /// Whether no fraction point is in both hulls.
@@ -94,47 +94,4 @@ fn is_leftwards(way: &Pt, other: &Pt) -> bool
 {
     let side = turn(way, other);
     side > 0 || (side == 0 && along(way, other) > 0)
-}
-
-/// The way from `q` to `p`.
-fn difference(p: &Pt, q: &Pt) -> Pt
-    requires p_in { IsPosition p.now }
-    requires q_in { IsPosition q.now }
-    ensures value { result ≡ minus p.now q.now }
-    ensures size { IsWay result }
-{
-    Pt {
-        x: p.x - q.x,
-        y: p.y - q.y,
-    }
-}
-
-/// The inner product of two ways.
-fn along(u: &Pt, v: &Pt) -> i128
-    requires u_in { IsWay u.now }
-    requires v_in { IsWay v.now }
-    ensures value { result ≡ along_of u.now v.now }
-    ensures within { SizeAtMost 20_000_000_000_000_000_000_000_000_000 result }
-{
-    product(u.x, v.x) + product(u.y, v.y)
-}
-
-/// Twice the area of the triangle of 0, `u` and `v`: positive where `v` is left of `u`.
-fn turn(u: &Pt, v: &Pt) -> i128
-    requires u_in { IsWay u.now }
-    requires v_in { IsWay v.now }
-    ensures value { result ≡ turn_of u.now v.now }
-    ensures within { SizeAtMost 20_000_000_000_000_000_000_000_000_000 result }
-{
-    product(u.x, v.y) - product(u.y, v.x)
-}
-
-/// The product of two coordinates of ways.
-fn product(a: i64, b: i64) -> i128
-    requires a_in { SizeAtMost 100_000_000_000_000 a }
-    requires b_in { SizeAtMost 100_000_000_000_000 b }
-    ensures value { result ≡ a *ℤ b }
-    ensures within { SizeAtMost 10_000_000_000_000_000_000_000_000_000 result }
-{
-    i128::from(a) * i128::from(b)
 }

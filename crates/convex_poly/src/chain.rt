@@ -35,15 +35,15 @@ fn extend(chain: &mut ArrayVec<Pt, 64>, next: &Pt)
     chain.push(*next);
 }
 
-/// The chain of points whose keys rise: it turns left, and all points lie on its left side.
-pub(crate) fn chain_of(points: &[Pt]) -> ArrayVec<Pt, 64>
+/// Puts the chain of points whose keys rise into `chain`, in place of what is there: it turns left, and all points lie
+/// on its left side.
+pub(crate) fn put_chain(chain: &mut ArrayVec<Pt, 64>, points: &[Pt])
     requires few { length points.now ≤ 64 }
     requires positions { AllByRecursion IsPosition points.now }
-    ensures { (kx ky : ℤ) → Rising kx ky points.now → IsChain kx ky points.now result.items }
+    ensures { (kx ky : ℤ) → Rising kx ky points.now → IsChain kx ky points.now chain.new.items }
 {
-    let mut chain = ArrayVec::new();
+    chain.clear();
     for p in points {
-        extend(&mut chain, p);
+        extend(chain, p);
     }
-    chain
 }

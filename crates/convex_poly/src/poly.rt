@@ -4,7 +4,7 @@ ghost use Rattle.std.specs.Prelude.{List};
 ghost use Rattle.convex_poly.specs.Polygons.{IsPolygon};
 ghost use Rattle.spot_terms.specs.declared.plain.Pt.{Pt as Point};
 
-use crate::hulls::corners_of;
+use crate::hulls::put_corners;
 use arrayvec::ArrayVec;
 use spot_terms::Pt;
 use std::marker::Model;
@@ -100,7 +100,7 @@ pub fn hull(points: &[Pt]) -> Poly
     requires few_corners { (corners : List Point) → IsHullOf points.now corners → length corners ≤ 20 }
     ensures { IsHullOf points.now result }
 {
-    Poly {
-        corners: corners_of(points),
-    }
+    let mut corners = ArrayVec::new();
+    put_corners(&mut corners, points);
+    Poly { corners }
 }

@@ -89,7 +89,7 @@ fn room_beside(a: &Pt, b: &Pt, y: i64) -> i128
 }
 
 /// The part of the span with rise · (x - from) at most `room`. It divides only where that is less than the span.
-fn lowered(span: (i64, i64), from: i64, room: i128, rise: i128) -> Option<(i64, i64)>
+fn lowered(span: (i64, i64), from: i64, room: i128, rise: i64) -> Option<(i64, i64)>
     requires span { IsSpan span }
     requires from { SizeAtMost 40_000_000_000_000 from }
     requires room { SizeAtMost 10_000_000_000_000_000_000_000_000_000 room }
@@ -109,7 +109,7 @@ fn lowered(span: (i64, i64), from: i64, room: i128, rise: i128) -> Option<(i64, 
 }
 
 /// The part of the span with fall · (from - x) at most `room`. It divides only where that is less than the span.
-fn raised(span: (i64, i64), from: i64, room: i128, fall: i128) -> Option<(i64, i64)>
+fn raised(span: (i64, i64), from: i64, room: i128, fall: i64) -> Option<(i64, i64)>
     requires span { IsSpan span }
     requires from { SizeAtMost 40_000_000_000_000 from }
     requires room { SizeAtMost 10_000_000_000_000_000_000_000_000_000 room }
@@ -129,7 +129,7 @@ fn raised(span: (i64, i64), from: i64, room: i128, fall: i128) -> Option<(i64, i
 }
 
 /// Whether rise · (to - from) is at most `room`.
-fn has_room(rise: i128, from: i64, to: i64, room: i128) -> bool
+fn has_room(rise: i64, from: i64, to: i64, room: i128) -> bool
     requires from { SizeAtMost 40_000_000_000_000 from }
     requires to { SizeAtMost 40_000_000_000_000 to }
     requires room { SizeAtMost 10_000_000_000_000_000_000_000_000_000 room }
@@ -140,11 +140,11 @@ fn has_room(rise: i128, from: i64, to: i64, room: i128) -> bool
 }
 
 /// room / rise, rounded down.
-fn quotient(room: i128, rise: i128) -> i128
+fn quotient(room: i128, rise: i64) -> i128
     requires room { SizeAtMost 10_000_000_000_000_000_000_000_000_000 room }
     requires rise { pos 0 <ℤ rise }
     ensures value { IsQuotient room rise result }
     ensures within { SizeAtMost 10_000_000_000_000_000_000_000_000_000 result }
 {
-    div_floor(room, rise)
+    div_floor(room, i128::from(rise))
 }

@@ -9,33 +9,31 @@ use crate::inside::is_same;
 use arrayvec::ArrayVec;
 use spot_terms::Pt;
 
-/// The points in order.
-pub(crate) fn sorted(points: &[Pt]) -> ArrayVec<Pt, 64>
+/// Puts the points into `sorted`, in order, in place of what is there.
+pub(crate) fn put_sorted(sorted: &mut ArrayVec<Pt, 64>, points: &[Pt])
     requires { length points.now ≤ 64 }
-    ensures permutation { IsPermutation points.now result.items }
-    ensures order { (i j : ℕ) (d : Pt) → i < j → j < length result.items → IsInOrder (slice_index_or result.items i d) (slice_index_or result.items j d) }
+    ensures permutation { IsPermutation points.now sorted.new.items }
+    ensures order { (i j : ℕ) (d : Pt) → i < j → j < length sorted.new.items → IsInOrder (slice_index_or sorted.new.items i d) (slice_index_or sorted.new.items j d) }
 {
-    let mut all = ArrayVec::new();
+    sorted.clear();
     for p in points {
-        all.push(*p);
+        sorted.push(*p);
     }
-    all.as_mut_slice().sort_unstable();
-    all
+    sorted.as_mut_slice().sort_unstable();
 }
 
-/// The points in order, each once.
-pub(crate) fn without_repeats(points: &[Pt]) -> ArrayVec<Pt, 64>
+/// Puts the points, which are in order, into `kept`, each once, in place of what is there.
+pub(crate) fn put_distinct(kept: &mut ArrayVec<Pt, 64>, points: &[Pt])
     requires few { length points.now ≤ 64 }
     requires order { (i j : ℕ) (d : Pt) → i < j → j < length points.now → IsInOrder (slice_index_or points.now i d) (slice_index_or points.now j d) }
-    ensures ordered { IsOrdered result.items }
-    ensures among { AllByRecursion (Includes points.now) result.items }
-    ensures all { AllByRecursion (Includes result.items) points.now }
+    ensures ordered { IsOrdered kept.new.items }
+    ensures among { AllByRecursion (Includes points.now) kept.new.items }
+    ensures all { AllByRecursion (Includes kept.new.items) points.now }
 {
-    let mut kept = ArrayVec::new();
+    kept.clear();
     for (i, p) in points.iter().enumerate() {
         if i == 0 || !is_same(&points[i - 1], p) {
             kept.push(*p);
         }
     }
-    kept
 }

@@ -1,7 +1,7 @@
 use Rattle.std.proofs.Common.{sym, subst}
 use Rattle.convex_poly.specs.Pivots.{IsLeftwards}
 use Rattle.convex_poly.proofs.Corners.{origin}
-use Rattle.convex_poly.proofs.Normals.{includes_at}
+use Rattle.spot_terms.proofs.ListLemmas.{includes_at}
 use Rattle.convex_poly.proofs.Leans.{rightmost_none, rightmost_next, rightmost_all}
 use Rattle.convex_poly.proofs.apart.rightmost.Goals as goal
 

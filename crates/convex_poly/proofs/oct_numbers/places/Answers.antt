@@ -2,7 +2,7 @@ use Rattle.std.proofs.Common.{◌≡◌, ◌+ℤ◌, ◌-ℤ◌, ℤ, pos, arith
 use Rattle.std.proofs.lemmas.Int.{ints}
 use Rattle.spot_terms.specs.Reach.{along, minus_one}
 use Rattle.spot_terms.specs.declared.plain.Pt.{Pt}
-use Rattle.convex_poly.proofs.Normals.{along-east, along-north_east, along-north, along-north_west, along-west, along-south_west, along-south, along-south_east}
+use Rattle.spot_terms.proofs.Normals.{along-east, along-north_east, along-north, along-north_west, along-west, along-south_west, along-south, along-south_east}
 use Rattle.convex_poly.proofs.oct_numbers.places.Goals as goal
 
 pub returns : goal.returns

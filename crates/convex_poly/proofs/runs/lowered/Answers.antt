@@ -8,7 +8,7 @@ use Rattle.convex_poly.proofs.runs.lowered.Goals as goal
 
 pub returns-then-has_room : goal.returns-then-has_room
 returns-then-has_room c =
-    let rise : FitsSigned w128 c.args.rise = c.ranges.rise in
+    let rise : FitsSigned w64 c.args.rise = c.ranges.rise in
     let room : FitsSigned w128 c.args.room = c.ranges.room in
     let from : FitsSigned w64 c.args.from = c.ranges.from in
     let end : FitsSigned w64 c.args.span.1 = omega (arith, ints, c.requires.span.last) in
@@ -20,7 +20,7 @@ overflow_add-last c = let small = c.quotient.ensures.within in let f = c.from.en
 
 pub overflow_cast-result : goal.overflow_cast-result
 overflow_cast-result c =
-    let rise : FitsSigned w128 c.args.rise = c.ranges.rise in
+    let rise : FitsSigned w64 c.args.rise = c.ranges.rise in
     let room : FitsSigned w128 c.args.room = c.ranges.room in
     let from : FitsSigned w64 c.args.from = c.ranges.from in
     let end : FitsSigned w64 c.args.span.1 = omega (arith, ints, c.requires.span.last) in
@@ -37,7 +37,7 @@ overflow_cast-result c =
 
 pub returns-then-last-from : goal.returns-then-last-from
 returns-then-last-from c =
-    let rise : FitsSigned w128 c.args.rise = c.ranges.rise in
+    let rise : FitsSigned w64 c.args.rise = c.ranges.rise in
     let room : FitsSigned w128 c.args.room = c.ranges.room in
     let from : FitsSigned w64 c.args.from = c.ranges.from in
     let end : FitsSigned w64 c.args.span.1 = omega (arith, ints, c.requires.span.last) in
@@ -52,7 +52,7 @@ returns-then-last-from c =
 
 pub returns-else-last-from : goal.returns-else-last-from
 returns-else-last-from c =
-    let rise : FitsSigned w128 c.args.rise = c.ranges.rise in
+    let rise : FitsSigned w64 c.args.rise = c.ranges.rise in
     let room : FitsSigned w128 c.args.room = c.ranges.room in
     let from : FitsSigned w64 c.args.from = c.ranges.from in
     let end : FitsSigned w64 c.args.span.1 = omega (arith, ints, c.requires.span.last) in

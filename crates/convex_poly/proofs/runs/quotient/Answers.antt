@@ -1,4 +1,4 @@
-use Rattle.std.proofs.Common.{◌≡◌, to_z-of_z, FitsSigned}
+use Rattle.std.proofs.Common.{◌≡◌, subst, w64, to_z-of_z, FitsSigned}
 use Rattle.std.specs.Int.{w128}
 use Rattle.spot_terms.specs.Whole.{quotient_floor}
 use Rattle.convex_poly.proofs.RunSteps.{quotient_size, quotient_is}
@@ -7,8 +7,10 @@ use Rattle.convex_poly.proofs.runs.quotient.Goals as goal
 same : (c : goal.After-div_floor) → c.div_floor.result ≡ quotient_floor c.args.room c.args.rise
 same c =
     let room : FitsSigned w128 c.args.room = c.ranges.room in
-    let rise : FitsSigned w128 c.args.rise = c.ranges.rise in
-    simp to_z-of_z at c.div_floor.ensures.value
+    let rise : FitsSigned w64 c.args.rise = c.ranges.rise in
+    let wide : c.from.result ≡ c.args.rise = simp to_z-of_z at c.from.ensures in
+    let fits : FitsSigned w128 c.from.result = record { sfits = c.from.type_inv } in
+    subst (λ z. c.div_floor.result ≡ quotient_floor c.args.room z) wide (simp to_z-of_z at c.div_floor.ensures.value)
 
 pub returns-clause-value : goal.returns-clause-value
 returns-clause-value c =

@@ -8,7 +8,7 @@ use Rattle.convex_poly.proofs.runs.raised.Goals as goal
 
 pub returns-then-has_room : goal.returns-then-has_room
 returns-then-has_room c =
-    let fall : FitsSigned w128 c.args.fall = c.ranges.fall in
+    let fall : FitsSigned w64 c.args.fall = c.ranges.fall in
     let room : FitsSigned w128 c.args.room = c.ranges.room in
     let from : FitsSigned w64 c.args.from = c.ranges.from in
     let end : FitsSigned w64 c.args.span.0 = omega (arith, ints, c.requires.span.first) in
@@ -20,7 +20,7 @@ overflow_sub-first c = let small = c.quotient.ensures.within in let f = c.from.e
 
 pub overflow_cast-result : goal.overflow_cast-result
 overflow_cast-result c =
-    let fall : FitsSigned w128 c.args.fall = c.ranges.fall in
+    let fall : FitsSigned w64 c.args.fall = c.ranges.fall in
     let room : FitsSigned w128 c.args.room = c.ranges.room in
     let from : FitsSigned w64 c.args.from = c.ranges.from in
     let end : FitsSigned w64 c.args.span.0 = omega (arith, ints, c.requires.span.first) in
@@ -37,7 +37,7 @@ overflow_cast-result c =
 
 pub returns-then-first-from : goal.returns-then-first-from
 returns-then-first-from c =
-    let fall : FitsSigned w128 c.args.fall = c.ranges.fall in
+    let fall : FitsSigned w64 c.args.fall = c.ranges.fall in
     let room : FitsSigned w128 c.args.room = c.ranges.room in
     let from : FitsSigned w64 c.args.from = c.ranges.from in
     let end : FitsSigned w64 c.args.span.0 = omega (arith, ints, c.requires.span.first) in
@@ -52,7 +52,7 @@ returns-then-first-from c =
 
 pub returns-else-first-from : goal.returns-else-first-from
 returns-else-first-from c =
-    let fall : FitsSigned w128 c.args.fall = c.ranges.fall in
+    let fall : FitsSigned w64 c.args.fall = c.ranges.fall in
     let room : FitsSigned w128 c.args.room = c.ranges.room in
     let from : FitsSigned w64 c.args.from = c.ranges.from in
     let end : FitsSigned w64 c.args.span.0 = omega (arith, ints, c.requires.span.first) in

@@ -5,7 +5,7 @@ use Rattle.convex_poly.specs.Polygons.{IsPosition}
 use Rattle.convex_poly.proofs.Corners.{origin}
 use Rattle.convex_poly.proofs.Places.{same_index, all_at}
 use Rattle.convex_poly.proofs.ChainSteps.{chain_more, front_few, whole_chain, all_append, all_take}
-use Rattle.convex_poly.proofs.chain.chain_of.Goals as goal
+use Rattle.convex_poly.proofs.chain.put_chain.Goals as goal
 
 pub loop-p-preserved : goal.loop-p-preserved
 loop-p-preserved c =

@@ -2,8 +2,8 @@ use Rattle.std.proofs.Common.{◌≡◌, ℕ, List, get_or, arith, subst, true, 
 use Rattle.spot_terms.specs.declared.plain.Pt.{Pt}
 use Rattle.convex_poly.proofs.Corners.{origin}
 use Rattle.convex_poly.proofs.Repeats.{IsKept, kept_push, kept_skip, kept_all}
-use Rattle.convex_poly.proofs.sorting.without_repeats.Goals as goal
-use Rattle.convex_poly.proofs.sorting.without_repeats.Goals.{then-i-eq0, then-i-eq0-via-then-i-eq0, then-i-eq0-via-else-i-eq0+then-not-is_same, else-i-eq0+else-not-is_same}
+use Rattle.convex_poly.proofs.sorting.put_distinct.Goals as goal
+use Rattle.convex_poly.proofs.sorting.put_distinct.Goals.{then-i-eq0, then-i-eq0-via-then-i-eq0, then-i-eq0-via-else-i-eq0+then-not-is_same, else-i-eq0+else-not-is_same}
 
 pub loop-i-preserved : goal.loop-i-preserved
 loop-i-preserved c =

@@ -2,7 +2,7 @@ use Rattle.std.proofs.Common.{ℤ, take, length, ◌≤◌}
 use Rattle.std.specs.List.{AllByRecursion}
 use Rattle.convex_poly.specs.Polygons.{IsPosition}
 use Rattle.convex_poly.specs.Chains.{Rising, IsChain}
-use Rattle.convex_poly.proofs.chain.chain_of.Given as goal
+use Rattle.convex_poly.proofs.chain.put_chain.Given as goal
 
 abbrev pub invariant-loop-p : goal.invariant-loop-p
 invariant-loop-p l = record {
