@@ -1,2 +1,4 @@
 -- The definitions, one module a concept.
 pub mod Origin
+pub mod Frames
+pub mod Clips

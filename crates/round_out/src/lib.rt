@@ -1,6 +1,30 @@
-//! Round bodies, rounded out to numbers of octagons.
+//! Shapes rounded out to whole numbers: discs to octagons, clips and frames to polygons with whole corners. What is
+//! made holds each whole point that it has to.
 #![tactic(auto)]
 
+mod body;
+mod clips;
 mod disc;
+mod frames;
 
+pub use body::body_poly;
+pub use clips::{clip_v_max, clip_v_min, clip_x_max, clip_x_min};
 pub use disc::{body_octagon, disc_number};
+pub use frames::{FrameNumbers, frame_numbers, frame_poly};
+
+#[cfg(test)]
+mod clip_tests;
+#[cfg(test)]
+mod frame_tests;
+#[cfg(test)]
+mod hull_rows;
+#[cfg(test)]
+mod polygon_rows;
+#[cfg(test)]
+mod position_clip_rows;
+#[cfg(test)]
+mod speed_clip_rows;
+#[cfg(test)]
+mod table_tests;
+#[cfg(test)]
+mod test_points;
