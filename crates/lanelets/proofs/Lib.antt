@@ -1,0 +1,16 @@
+pub mod Adding
+pub mod BridgeLists
+pub mod BuiltCells
+pub mod CellCounts
+pub mod ColumnLists
+pub mod Cuts
+pub mod Disjunctions
+pub mod Holds
+pub mod LaneCells
+pub mod LinkLists
+pub mod NumberLists
+pub mod Places
+pub mod RowLists
+pub mod Sides
+pub mod StepLists
+pub mod WidthLists

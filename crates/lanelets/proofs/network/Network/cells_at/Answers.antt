@@ -1,0 +1,18 @@
+use Rattle.std.proofs.Common.{List, length, ap, subst, arith}
+use Rattle.spot_terms.specs.Cells.{Lane}
+use Rattle.lanelets.specs.Holding.{HoldsAt, IsHolding}
+use Rattle.lanelets.specs.Listing.{Lists}
+use Rattle.lanelets.proofs.BuiltCells.{as_many}
+use Rattle.lanelets.proofs.Holds.{holding_is}
+use Rattle.lanelets.proofs.network.Network.cells_at.Goals as goal
+
+pub cells_holding-requires : goal.cells_holding-requires
+cells_holding-requires c =
+    let many = as_many c.self.inside.built_from.value.entries c.self.inside.cells.items c.self.invariant.placed in
+    let same = ap length c.deref.ensures.value in let few = c.self.invariant.few in omega (arith, many, same, few)
+
+pub returns : goal.returns
+returns c =
+    let list : Lists (HoldsAt c.self.inside.cells.items c.args.p) c.in_ok-list.list = rw c.deref.ensures.value at c.in_ok-list.ensures in
+    subst (λ (lanes : List Lane). Lists (IsHolding lanes c.args.p) c.in_ok-list.list) c.self.view_is
+    (holding_is c.self.inside.built_from.value.entries c.self.inside.cells.items c.args.p c.in_ok-list.list c.self.invariant.placed list)

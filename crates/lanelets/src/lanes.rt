@@ -1,0 +1,29 @@
+//! The lanelets of which a network is built.
+
+ghost use Rattle.std.specs.Prelude.{◌≡◌, ◌<◌, ◌≤◌, length, slice_get, Some};
+ghost use Rattle.spot_terms.specs.Ranges.{IsLaneInRange, lane_size};
+ghost use Rattle.lanelets.specs.Buildable.{AreBuildable};
+
+use indexmap::IndexMap;
+use spot_terms::RawLane;
+
+/// The number of lanelets.
+pub(crate) fn lane_count(lanes: &IndexMap<u32, RawLane>) -> u32
+    requires { AreBuildable lanes.now.entries }
+    ensures is { result ≡ length lanes.now.entries }
+    ensures few { result ≤ 67_108_864 }
+{
+    lanes.len() as u32
+}
+
+/// The id and the lanelet at a position.
+pub(crate) fn lane_at(lanes: &IndexMap<u32, RawLane>, e: u32) -> (u32, &RawLane)
+    requires buildable { AreBuildable lanes.now.entries }
+    requires within { e < length lanes.now.entries }
+    ensures is { slice_get lanes.now.entries e ≡ Some (result.0, result.1.now) }
+    ensures range { IsLaneInRange result.1.now }
+    ensures few { lane_size result.1.now ≤ 67_108_864 }
+{
+    let (id, lane) = lanes.get_index(e as usize).unwrap();
+    (*id, lane)
+}

@@ -1,0 +1,75 @@
+//! Which cells hold a point.
+
+ghost use Rattle.std.specs.Prelude.{◌≡◌, ◌↔◌, ◌≤◌, length, IsTrue, IfOk};
+ghost use Rattle.spot_terms.specs.Hull.{InHull};
+ghost use Rattle.convex_poly.specs.Polygons.{IsPosition};
+ghost use Rattle.lanelets.specs.Listing.{Lists};
+ghost use Rattle.lanelets.specs.Holding.{HoldsAt};
+
+use crate::cell::Placed;
+use convex_poly::Poly;
+use spot_terms::Pt;
+use std::alloc::{AllocError, Global};
+use std::marker::Model;
+
+/// A list of numbers of cells.
+#[derive(Drop)]
+pub struct CellList {
+    items: Vec<u32>,
+}
+
+impl Model for CellList {
+    ghost use Rattle.std.specs.Prelude.{List, ℕ};
+
+    ghost Value = { List ℕ };
+
+    ghost view = { λ l. l.items.items };
+}
+
+impl CellList {
+    /// The list of these items.
+    pub fn from_vec(items: Vec<u32>) -> Self
+        ensures { result ≡ items.items }
+    {
+        CellList { items }
+    }
+
+    /// The items, in order.
+    pub fn list(&self) -> &[u32]
+        ensures { result.now ≡ self.now }
+    {
+        &self.items
+    }
+}
+
+// Whether the coordinates of a point are at most 4·10^13 in size, as those of all cells are.
+fn is_position(p: Pt) -> bool
+    ensures { IsTrue result ↔ IsPosition p }
+{
+    p.x.unsigned_abs() <= 40_000_000_000_000 && p.y.unsigned_abs() <= 40_000_000_000_000
+}
+
+// Whether a polygon holds a point.
+fn holds(poly: &Poly, p: Pt) -> bool
+    ensures { IsTrue result ↔ InHull poly.now p }
+{
+    let _ = poly.corners();
+    if !is_position(p) {
+        return false;
+    }
+    poly.contains(p)
+}
+
+/// The numbers of the cells that hold a point.
+pub(crate) fn cells_holding(alloc: Global, cells: &[Placed], p: Pt) -> Result<CellList, AllocError>
+    requires { length cells.now ≤ 100_000 }
+    ensures { IfOk result (λ list. Lists (HoldsAt cells.now p) list) }
+{
+    let mut list = Vec::new(alloc);
+    for (c, placed) in cells.iter().enumerate() {
+        if holds(&placed.cell.poly, p) {
+            list.push(c as u32)?;
+        }
+    }
+    Ok(CellList::from_vec(list))
+}
