@@ -1,0 +1,71 @@
+-- The list of all differences, one more at a time.
+use Rattle.std.proofs.Common.{◌≡◌, ◌∙◌, ℕ, ◌+◌, ◌*◌, ◌≤◌, ◌<◌, arith, refl, sym, ap, List, [], ◌∷◌, ◌++◌, take, length, slice_index_or, mul-le-mul}
+use Rattle.std.proofs.lemmas.List.{append-nil, append_assoc, length-append, length-take-le, take_more, take_all}
+use Rattle.spot_terms.specs.declared.plain.Pt.{Pt}
+use Rattle.convex_poly.specs.Pivots.{minus, each_minus, differences}
+
+-- ---- one point against a list
+
+-- joined lists and lengths
+each-append : (p : Pt) (us vs : List Pt) → each_minus p (us ++ vs) ≡ each_minus p us ++ each_minus p vs
+each-append p [] vs = refl
+each-append p (u ∷ us) vs = ap (λ (z : List Pt). minus p u ∷ z) (each-append p us vs)
+
+length-each : (p : Pt) (b : List Pt) → length (each_minus p b) ≡ length b
+length-each p [] = refl
+length-each p (q ∷ b) = omega (arith, length-each p b)
+
+-- one more way
+pub each_more : (old before now : List Pt) (p : Pt) (b : List Pt) (i : ℕ) (d way : Pt) → i < length b → before ≡ old ++ each_minus p (take i b) → way ≡ minus p (slice_index_or b i d) → now ≡ before ++ way ∷ [] → now ≡ old ++ each_minus p (take (i + 1) b)
+each_more old before now p b i d way h e f g =
+    let more : each_minus p (take (i + 1) b) ≡ each_minus p (take i b) ++ minus p (slice_index_or b i d) ∷ [] = ap (each_minus p) (take_more b i d h) ∙ each-append p (take i b) (slice_index_or b i d ∷ []) in
+    g ∙ ap (λ (z : List Pt). z ++ way ∷ []) e ∙ ap (λ (z : Pt). (old ++ each_minus p (take i b)) ++ z ∷ []) f
+    ∙ append_assoc old (each_minus p (take i b)) (minus p (slice_index_or b i d) ∷ []) ∙ ap (λ (z : List Pt). old ++ z) (sym more)
+
+-- room for one more
+pub each_room : (old now : List Pt) (p : Pt) (b : List Pt) (i room : ℕ) → i < length b → now ≡ old ++ each_minus p (take i b) → length old + length b ≤ room → length now < room
+each_room old now p b i room h e k =
+    let so_far : length now ≡ length old + i = ap length e ∙ length-append old (each_minus p (take i b)) ∙ ap (λ (n : ℕ). length old + n) (length-each p (take i b) ∙ length-take-le i b (below i (length b) h)) in
+    omega (arith, so_far, h, k)
+  where
+    below : (m n : ℕ) → m < n → m ≤ n
+    below m n l = omega arith
+
+-- past the last place all are in
+pub each_all : (old now : List Pt) (p : Pt) (b : List Pt) (i : ℕ) → length b ≤ i → now ≡ old ++ each_minus p (take i b) → now ≡ old ++ each_minus p b
+each_all old now p b i h e = e ∙ ap (λ (z : List Pt). old ++ each_minus p z) (take_all i b h)
+
+-- ---- a list against a list
+
+-- joined lists and lengths
+differences-append : (us vs qs : List Pt) → differences (us ++ vs) qs ≡ differences us qs ++ differences vs qs
+differences-append [] vs qs = refl
+differences-append (u ∷ us) vs qs = ap (λ (z : List Pt). each_minus u qs ++ z) (differences-append us vs qs) ∙ sym (append_assoc (each_minus u qs) (differences us qs) (differences vs qs))
+
+length-differences : (a b : List Pt) → length (differences a b) ≡ length a * length b
+length-differences [] b = omega arith
+length-differences (p ∷ a) b = length-append (each_minus p b) (differences a b) ∙ omega (arith, length-each p b, length-differences a b)
+
+-- the ways of one more point
+pub differences_more : (before now : List Pt) (a b : List Pt) (i : ℕ) (d : Pt) → i < length a → before ≡ differences (take i a) b → now ≡ before ++ each_minus (slice_index_or a i d) b → now ≡ differences (take (i + 1) a) b
+differences_more before now a b i d h e f =
+    f ∙ ap (λ (z : List Pt). z ++ each_minus (slice_index_or a i d) b) e
+    ∙ ap (λ (z : List Pt). differences (take i a) b ++ z) (sym (append-nil (each_minus (slice_index_or a i d) b)))
+    ∙ sym (differences-append (take i a) (slice_index_or a i d ∷ []) b) ∙ ap (λ (z : List Pt). differences z b) (sym (take_more a i d h))
+
+-- room for those of one more point, of at most 20 and 20
+pub differences_room : (now a b : List Pt) (i : ℕ) → i < length a → length a ≤ 20 → length b ≤ 20 → now ≡ differences (take i a) b → length now + length b ≤ 400
+differences_room now a b i h few_a few_b e =
+    let so_far : length now ≡ i * length b = ap length e ∙ length-differences (take i a) b ∙ ap (λ (n : ℕ). n * length b) (length-take-le i a (below i (length a) h)) in
+    let all : (i + 1) * length b ≤ 20 * 20 = grow (i + 1) 20 (length b) 20 (omega (arith, h, few_a)) few_b in
+    omega (arith, so_far, all)
+  where
+    below : (m n : ℕ) → m < n → m ≤ n
+    below m n l = omega arith
+
+    grow : (x y u v : ℕ) → x ≤ y → u ≤ v → x * u ≤ y * v
+    grow x y u v k l = grind (arith, mul-le-mul)
+
+-- past the last place all are in
+pub differences_all : (now a b : List Pt) (i : ℕ) → length a ≤ i → now ≡ differences (take i a) b → now ≡ differences a b
+differences_all now a b i h e = e ∙ ap (λ (z : List Pt). differences z b) (take_all i a h)

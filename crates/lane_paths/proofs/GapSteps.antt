@@ -1,0 +1,69 @@
+-- What the tests of the gap tell.
+use Rattle.std.proofs.Common.{◌≡◌, ◌∙◌, ℕ, ◌≤◌, ◌<◌, arith, refl, sym, ap, subst, List, [], ◌∷◌, length, inl, inr, ℤ, ◌-ℤ◌, w64, to_z, of_z}
+use Rattle.std.proofs.lemmas.Int.{ints}
+use Rattle.std.specs.Prelude.{nat_abs}
+use Rattle.std.specs.List.{AllByRecursion}
+use Rattle.spot_terms.specs.Gaps.{IsFarFrom, AreFar, IsGap}
+use Rattle.spot_terms.specs.Lists.{Includes}
+use Rattle.spot_terms.specs.Whole.{IsRootFloor}
+use Rattle.spot_terms.specs.declared.plain.Pt.{Pt}
+use Rattle.spot_terms.proofs.ListLemmas.{all_of}
+use Rattle.convex_poly.specs.Pivots.{AreDisjoint, minus, differences}
+use Rattle.convex_poly.specs.Polygons.{IsPolygon}
+use Rattle.convex_poly.proofs.Corners.{pt_same}
+use Rattle.convex_poly.proofs.Disjoint.{meets_common, differences_hold, disjoint_or_meets}
+use Rattle.convex_poly.proofs.Places.{order}
+use Rattle.lane_paths.specs.Spans.{IsSmall, IsLeastSpan}
+use Rattle.lane_paths.proofs.GapLaws.{gap_apart, gap_meets}
+
+-- the difference of two points as the code computes it
+minus_is : (a b : ℤ) → nat_abs (a -ℤ b) ≤ 1_000_000_000 → a ≡ to_z w64 (of_z w64 a) → b ≡ to_z w64 (of_z w64 b) → to_z w64 (of_z w64 (to_z w64 (of_z w64 a) -ℤ to_z w64 (of_z w64 b))) ≡ a -ℤ b
+minus_is a b h e f = omega (arith, ints)
+
+-- and as a point
+pub difference_is : (p q : Pt) → IsSmall (minus p q) → p.x ≡ to_z w64 (of_z w64 p.x) → q.x ≡ to_z w64 (of_z w64 q.x) → p.y ≡ to_z w64 (of_z w64 p.y) → q.y ≡ to_z w64 (of_z w64 q.y)
+    → ◌≡◌ {A = Pt} (record { x = to_z w64 (of_z w64 (to_z w64 (of_z w64 p.x) -ℤ to_z w64 (of_z w64 q.x))); y = to_z w64 (of_z w64 (to_z w64 (of_z w64 p.y) -ℤ to_z w64 (of_z w64 q.y))) }) (minus p q)
+difference_is p q h px qx py qy = pt_same _ _ (minus_is p.x q.x h.x px qx) (minus_is p.y q.y h.y py qy)
+
+-- ---- points that aren't far from each other
+
+-- their difference is small
+near_small : (p q : Pt) → (IsFarFrom p q → ⊥) → IsSmall (minus p q)
+near_small p q h = record { x = near (nat_abs (p.x -ℤ q.x)) (λ l. h (inl l)); y = near (nat_abs (p.y -ℤ q.y)) (λ l. h (inr l)) }
+  where
+    near : (n : ℕ) → (1_000_000_000 < n → ⊥) → n ≤ 1_000_000_000
+    near n g = elim (order 1_000_000_000 n) [ inl l ↦ absurd (g l) | inr k ↦ k ]
+
+-- so are the ways from all of b to one of a, and all differences
+pub near_ways : (a b : List Pt) (p : Pt) → (AreFar a b → ⊥) → Includes a p → (q : Pt) → Includes b q → IsSmall (minus p q)
+near_ways a b p h i q j = near_small p q (λ f. h (p, q, i, j, f))
+
+pub near_differences : (a b ways : List Pt) → ways ≡ differences a b → (AreFar a b → ⊥) → AllByRecursion IsSmall ways
+near_differences a b ways e h = subst (AllByRecursion IsSmall) (sym e) (all_of IsSmall (differences a b) (differences_hold IsSmall a b (λ p q i j. near_ways a b p h i q j)))
+
+-- ---- the corners that a call hands over are those of the polygon
+
+pub far_of : (a b us vs : List Pt) → us ≡ a → vs ≡ b → AreFar us vs → AreFar a b
+far_of a b us vs e f h = subst (λ (l : List Pt). AreFar l b) e (subst (AreFar us) f h)
+
+pub ways_of : (a b us vs ways : List Pt) → us ≡ a → vs ≡ b → ways ≡ differences us vs → ways ≡ differences a b
+ways_of a b us vs ways e f h = h ∙ ap (differences us) f ∙ ap (λ (l : List Pt). differences l b) e
+
+-- a polygon has a corner
+some_corners : (corners : List Pt) → IsPolygon corners → 0 < length corners
+some_corners [] h = absurd h.convex
+some_corners (c ∷ corners) h = omega arith
+
+-- ---- the answers
+
+-- where two are far
+pub gap_far : (a b : List Pt) → AreFar a b → IsGap a b 0
+gap_far a b f = inl (f, refl)
+
+-- where the two have a common point
+pub gap_common : (a b : List Pt) → IsPolygon a → IsPolygon b → (AreFar a b → ⊥) → (AreDisjoint a b → ⊥) → IsGap a b 0
+gap_common a b is_a is_b near h = inr (near, gap_meets a b (elim (disjoint_or_meets a b (some_corners a is_a) (some_corners b is_b)) [ inl d ↦ absurd (h d) | inr m ↦ m ]))
+
+-- where they have none, it is the root of the least span
+pub gap_least : (a b ways : List Pt) (n w : ℕ) → ways ≡ differences a b → (AreFar a b → ⊥) → AreDisjoint a b → IsLeastSpan ways n → IsRootFloor n w → IsGap a b w
+gap_least a b ways n w e near d s r = inr (near, gap_apart a b n w (λ m. let c = meets_common a b m in d c.p c.whole c.in_a c.in_b) (subst (λ (l : List Pt). IsLeastSpan l n) e s) r)

@@ -1,0 +1,180 @@
+-- The span of two ways, by what is computed.
+use Rattle.std.proofs.Common.{◌≡◌, ℕ, ◌+◌, ◌*◌, ◌/◌, ◌≤◌, ◌<◌, arith, refl, sym, ap, ◌∙◌, subst, [], ◌∷◌, inl, inr, mul-le-mul_left}
+use Rattle.std.proofs.lemmas.Int.{ints}
+use lib.IntN.{ℤ, pos, ◌+ℤ◌, ◌-ℤ◌, ◌*ℤ◌}
+use lib.Signed.{◌≤ℤ◌, ◌<ℤ◌}
+use Rattle.spot_terms.specs.declared.plain.Pt.{Pt}
+use Rattle.spot_terms.proofs.Mixes.{not_below_times}
+use Rattle.spot_terms.proofs.Products.{square_not_negative}
+use Rattle.spot_terms.proofs.Ring.{ring, Exp, var, num, ◌⊕◌, ◌⊖◌, ◌⊗◌}
+use Rattle.convex_poly.specs.Pivots.{turn_of, along}
+use Rattle.convex_poly.proofs.Disjoint.{part_ok}
+use Rattle.convex_poly.proofs.Places.{order}
+use Rattle.lane_paths.specs.Spans.{norm, StaysOff, IsSpan}
+use Rattle.lane_paths.proofs.Signs.{le_of, room, add_ok}
+
+-- ---- fewer, and in the other order
+
+-- what stays off by n stays off by less
+pub off_down : (u v : Pt) (n q : ℕ) → StaysOff u v n → q ≤ n → StaysOff u v q
+off_down u v n q o h a b ha hb = less (pos q) (pos n) (a +ℤ b) _ (omega (arith, ints)) (o a b ha hb)
+  where
+    less : (q n t M : ℤ) → q ≤ℤ n → (n *ℤ (t *ℤ t)) ≤ℤ M → (q *ℤ (t *ℤ t)) ≤ℤ M
+    less q n t M h o =
+        le_of _ _ (add_ok (q *ℤ (t *ℤ t)) (n *ℤ (t *ℤ t)) M
+        (subst (λ z. pos 0 ≤ℤ z) (ring (q ∷ n ∷ t ∷ []) ((var 1 ⊖ var 0) ⊗ (var 2 ⊗ var 2)) ((var 1 ⊗ (var 2 ⊗ var 2)) ⊖ (var 0 ⊗ (var 2 ⊗ var 2))) refl)
+        (not_below_times (n -ℤ q) (t *ℤ t) (room _ _ h) (square_not_negative t)))
+        (room _ _ o))
+
+-- a segment has no direction
+pub off_swap : (u v : Pt) (n : ℕ) → StaysOff u v n → StaysOff v u n
+off_swap u v n o a b ha hb =
+    subst (λ z. (pos n *ℤ ((a +ℤ b) *ℤ (a +ℤ b))) ≤ℤ z) (same b a u.x v.x u.y v.y)
+    (subst (λ z. (pos n *ℤ (z *ℤ z)) ≤ℤ norm ((b *ℤ u.x) +ℤ (a *ℤ v.x)) ((b *ℤ u.y) +ℤ (a *ℤ v.y))) (plain b a) (o b a hb ha))
+  where
+    plain : (s t : ℤ) → s +ℤ t ≡ t +ℤ s
+    plain s t = omega (arith, ints)
+
+    same : (s t x p y q : ℤ) → norm ((s *ℤ x) +ℤ (t *ℤ p)) ((s *ℤ y) +ℤ (t *ℤ q)) ≡ norm ((t *ℤ p) +ℤ (s *ℤ x)) ((t *ℤ q) +ℤ (s *ℤ y))
+    same s t x p y q = ap (λ z. norm z ((s *ℤ y) +ℤ (t *ℤ q))) (plain (s *ℤ x) (t *ℤ p)) ∙ ap (λ z. norm ((t *ℤ p) +ℤ (s *ℤ x)) z) (plain (s *ℤ y) (t *ℤ q))
+
+pub span_swap : (u v : Pt) (n : ℕ) → IsSpan u v n → IsSpan v u n
+span_swap u v n s = record { holds = off_swap u v n s.holds; greatest = λ q o. s.greatest q (off_swap v u q o) }
+
+-- ---- the span where an end is nearest
+
+-- a u + b v where the nearest point is u
+near_first : (u v : Pt) (a b : ℤ) → pos 0 ≤ℤ a → pos 0 ≤ℤ b → along u u ≤ℤ along u v
+    → pos 0 ≤ℤ (norm ((a *ℤ u.x) +ℤ (b *ℤ v.x)) ((a *ℤ u.y) +ℤ (b *ℤ v.y)) -ℤ (((a +ℤ b) *ℤ (a +ℤ b)) *ℤ along u u))
+near_first u v a b ha hb h =
+    let e : norm ((a *ℤ u.x) +ℤ (b *ℤ v.x)) ((a *ℤ u.y) +ℤ (b *ℤ v.y)) -ℤ (((a +ℤ b) *ℤ (a +ℤ b)) *ℤ along u u)
+    ≡ ((((a +ℤ a) *ℤ b) +ℤ ((b +ℤ b) *ℤ b)) *ℤ (along u v -ℤ along u u)) +ℤ ((b *ℤ b) *ℤ norm (u.x -ℤ v.x) (u.y -ℤ v.y))
+    = ring (a ∷ b ∷ u.x ∷ u.y ∷ v.x ∷ v.y ∷ [])
+    (((((var 0 ⊗ var 2) ⊕ (var 1 ⊗ var 4)) ⊗ ((var 0 ⊗ var 2) ⊕ (var 1 ⊗ var 4))) ⊕ (((var 0 ⊗ var 3) ⊕ (var 1 ⊗ var 5)) ⊗ ((var 0 ⊗ var 3) ⊕ (var 1 ⊗ var 5))))
+    ⊖ (((var 0 ⊕ var 1) ⊗ (var 0 ⊕ var 1)) ⊗ ((var 2 ⊗ var 2) ⊕ (var 3 ⊗ var 3))))
+    (((((var 0 ⊕ var 0) ⊗ var 1) ⊕ ((var 1 ⊕ var 1) ⊗ var 1)) ⊗ (((var 2 ⊗ var 4) ⊕ (var 3 ⊗ var 5)) ⊖ ((var 2 ⊗ var 2) ⊕ (var 3 ⊗ var 3))))
+    ⊕ ((var 1 ⊗ var 1) ⊗ (((var 2 ⊖ var 4) ⊗ (var 2 ⊖ var 4)) ⊕ ((var 3 ⊖ var 5) ⊗ (var 3 ⊖ var 5))))) refl in
+    subst (λ z. pos 0 ≤ℤ z) (sym e) (both _ _
+    (not_below_times _ (along u v -ℤ along u u) (both _ _ (not_below_times (a +ℤ a) b (both a a ha ha) hb) (not_below_times (b +ℤ b) b (both b b hb hb) hb)) (room _ _ h))
+    (not_below_times (b *ℤ b) _ (square_not_negative b) (both _ _ (square_not_negative (u.x -ℤ v.x)) (square_not_negative (u.y -ℤ v.y)))))
+  where
+    both : (s t : ℤ) → pos 0 ≤ℤ s → pos 0 ≤ℤ t → pos 0 ≤ℤ (s +ℤ t)
+    both s t h k = omega (arith, ints)
+
+-- where u is nearest, the span is u · u
+pub span_first : (u v : Pt) (n : ℕ) → pos n ≡ along u u → along u u ≤ℤ along u v → IsSpan u v n
+span_first u v n e h = record {
+  holds = λ a b ha hb. subst (λ z. (z *ℤ ((a +ℤ b) *ℤ (a +ℤ b))) ≤ℤ norm ((a *ℤ u.x) +ℤ (b *ℤ v.x)) ((a *ℤ u.y) +ℤ (b *ℤ v.y))) (sym e) (turned ((a +ℤ b) *ℤ (a +ℤ b)) (along u u) _ (near_first u v a b ha hb h));
+  greatest = λ q o. at_end q (o (pos 1) (pos 0) (omega (arith, ints)) (omega (arith, ints)));
+}
+  where
+    turned : (t N M : ℤ) → pos 0 ≤ℤ (M -ℤ (t *ℤ N)) → (N *ℤ t) ≤ℤ M
+    turned t N M k = le_of _ _ (subst (λ z. pos 0 ≤ℤ (M -ℤ z)) (ring (t ∷ N ∷ []) (var 0 ⊗ var 1) (var 1 ⊗ var 0) refl) k)
+
+    unfold_end : (x y p q : ℤ) → norm ((pos 1 *ℤ x) +ℤ (pos 0 *ℤ p)) ((pos 1 *ℤ y) +ℤ (pos 0 *ℤ q)) ≡ (x *ℤ x) +ℤ (y *ℤ y)
+    unfold_end x y p q = ring (x ∷ y ∷ p ∷ q ∷ [])
+        ((((num (pos 1) ⊗ var 0) ⊕ (num (pos 0) ⊗ var 2)) ⊗ ((num (pos 1) ⊗ var 0) ⊕ (num (pos 0) ⊗ var 2))) ⊕ (((num (pos 1) ⊗ var 1) ⊕ (num (pos 0) ⊗ var 3)) ⊗ ((num (pos 1) ⊗ var 1) ⊕ (num (pos 0) ⊗ var 3))))
+        ((var 0 ⊗ var 0) ⊕ (var 1 ⊗ var 1)) refl
+
+    at_end : (q : ℕ) → (pos q *ℤ ((pos 1 +ℤ pos 0) *ℤ (pos 1 +ℤ pos 0))) ≤ℤ norm ((pos 1 *ℤ u.x) +ℤ (pos 0 *ℤ v.x)) ((pos 1 *ℤ u.y) +ℤ (pos 0 *ℤ v.y)) → q ≤ n
+    at_end q o = plain q n (subst (λ z. (pos q *ℤ ((pos 1 +ℤ pos 0) *ℤ (pos 1 +ℤ pos 0))) ≤ℤ z) (unfold_end u.x u.y v.x v.y ∙ sym e) o)
+      where
+        plain : (q n : ℕ) → (pos q *ℤ ((pos 1 +ℤ pos 0) *ℤ (pos 1 +ℤ pos 0))) ≤ℤ pos n → q ≤ n
+        plain q n h = omega (arith, ints)
+
+-- ---- the span where the nearest point is inside
+
+-- the squared length of the segment
+abbrev pub gauge : Pt → Pt → ℤ
+gauge u v = (along u u -ℤ along u v) +ℤ (along v v -ℤ along u v)
+
+-- the squared length times the squared distance of a u + b v: a square above its least
+inside_off : (u v : Pt) (a b : ℤ) → gauge u v *ℤ norm ((a *ℤ u.x) +ℤ (b *ℤ v.x)) ((a *ℤ u.y) +ℤ (b *ℤ v.y))
+    ≡ (((a +ℤ b) *ℤ (a +ℤ b)) *ℤ (turn_of u v *ℤ turn_of u v))
+    +ℤ (((((a *ℤ u.x) +ℤ (b *ℤ v.x)) *ℤ (v.x -ℤ u.x)) +ℤ (((a *ℤ u.y) +ℤ (b *ℤ v.y)) *ℤ (v.y -ℤ u.y))) *ℤ ((((a *ℤ u.x) +ℤ (b *ℤ v.x)) *ℤ (v.x -ℤ u.x)) +ℤ (((a *ℤ u.y) +ℤ (b *ℤ v.y)) *ℤ (v.y -ℤ u.y))))
+inside_off u v a b =
+    let P : Exp = (var 0 ⊗ var 2) ⊕ (var 1 ⊗ var 4) in
+    let Q : Exp = (var 0 ⊗ var 3) ⊕ (var 1 ⊗ var 5) in
+    let uu : Exp = (var 2 ⊗ var 2) ⊕ (var 3 ⊗ var 3) in
+    let uv : Exp = (var 2 ⊗ var 4) ⊕ (var 3 ⊗ var 5) in
+    let vv : Exp = (var 4 ⊗ var 4) ⊕ (var 5 ⊗ var 5) in
+    let C : Exp = (var 2 ⊗ var 5) ⊖ (var 3 ⊗ var 4) in
+    let D : Exp = (P ⊗ (var 4 ⊖ var 2)) ⊕ (Q ⊗ (var 5 ⊖ var 3)) in
+    ring (a ∷ b ∷ u.x ∷ u.y ∷ v.x ∷ v.y ∷ []) (((uu ⊖ uv) ⊕ (vv ⊖ uv)) ⊗ ((P ⊗ P) ⊕ (Q ⊗ Q))) ((((var 0 ⊕ var 1) ⊗ (var 0 ⊕ var 1)) ⊗ (C ⊗ C)) ⊕ (D ⊗ D)) refl
+
+-- the point nearest to 0 reaches it
+inside_norm : (u v : Pt) → norm (((along v v -ℤ along u v) *ℤ u.x) +ℤ ((along u u -ℤ along u v) *ℤ v.x)) (((along v v -ℤ along u v) *ℤ u.y) +ℤ ((along u u -ℤ along u v) *ℤ v.y))
+    ≡ gauge u v *ℤ (turn_of u v *ℤ turn_of u v)
+inside_norm u v =
+    let uu : Exp = (var 0 ⊗ var 0) ⊕ (var 1 ⊗ var 1) in
+    let uv : Exp = (var 0 ⊗ var 2) ⊕ (var 1 ⊗ var 3) in
+    let vv : Exp = (var 2 ⊗ var 2) ⊕ (var 3 ⊗ var 3) in
+    let C : Exp = (var 0 ⊗ var 3) ⊖ (var 1 ⊗ var 2) in
+    let P : Exp = ((vv ⊖ uv) ⊗ var 0) ⊕ ((uu ⊖ uv) ⊗ var 2) in
+    let Q : Exp = ((vv ⊖ uv) ⊗ var 1) ⊕ ((uu ⊖ uv) ⊗ var 3) in
+    ring (u.x ∷ u.y ∷ v.x ∷ v.y ∷ []) ((P ⊗ P) ⊕ (Q ⊗ Q)) (((uu ⊖ uv) ⊕ (vv ⊖ uv)) ⊗ (C ⊗ C)) refl
+
+-- ---- quotients
+
+-- what is at most the quotient, times the divisor
+quotient_low : (m e n : ℕ) → 0 < e → n ≤ m / e → e * n ≤ m
+quotient_low m e n h k = let g : e * n ≤ e * (m / e) = mul-le-mul_left e k in omega arith
+
+quotient_high : (m e n : ℕ) → 0 < e → e * n ≤ m → n ≤ m / e
+quotient_high m e n h k = elim (order (m / e) n) [ inl g ↦ absurd (let f : e * (m / e + 1) ≤ e * n = mul-le-mul_left e (next (m / e) n g) in omega arith) | inr g ↦ g ]
+  where
+    next : (a b : ℕ) → a < b → a + 1 ≤ b
+    next a b h = omega arith
+
+-- where no end is nearest, the span is the squared turn by the squared length
+pub span_inside : (u v : Pt) (m e : ℕ) → 0 < e → pos m ≡ turn_of u v *ℤ turn_of u v → pos e ≡ gauge u v → along u v ≤ℤ along u u → along u v ≤ℤ along v v → IsSpan u v (m / e)
+span_inside u v m e he hm hg hu hv = record {
+  holds = λ a b ha hb. stays a b;
+  greatest = λ q o. quotient_high m e q he (most q (o (along v v -ℤ along u v) (along u u -ℤ along u v) (room _ _ hv) (room _ _ hu)));
+}
+  where
+    low : e * (m / e) ≤ m
+    low = quotient_low m e (m / e) he (itself (m / e))
+      where
+        itself : (n : ℕ) → n ≤ n
+        itself n = omega arith
+
+    plain_low : (e m n : ℕ) → e * n ≤ m → pos 0 ≤ℤ (pos m -ℤ (pos e *ℤ pos n))
+    plain_low e m n h = omega (arith, ints)
+
+    stays : (a b : ℤ) → (pos (m / e) *ℤ ((a +ℤ b) *ℤ (a +ℤ b))) ≤ℤ norm ((a *ℤ u.x) +ℤ (b *ℤ v.x)) ((a *ℤ u.y) +ℤ (b *ℤ v.y))
+    stays a b = finish (pos (m / e)) (a +ℤ b) (norm ((a *ℤ u.x) +ℤ (b *ℤ v.x)) ((a *ℤ u.y) +ℤ (b *ℤ v.y))) (gauge u v) (turn_of u v *ℤ turn_of u v) _
+        (subst (λ z. pos 0 <ℤ z) hg (omega (arith, ints))) (subst (λ z. pos 0 ≤ℤ (z -ℤ (gauge u v *ℤ pos (m / e)))) hm (subst (λ z. pos 0 ≤ℤ (pos m -ℤ (z *ℤ pos (m / e)))) hg (plain_low e m (m / e) low)))
+        (inside_off u v a b)
+      where
+        finish : (N t M E C D : ℤ) → pos 0 <ℤ E → pos 0 ≤ℤ (C -ℤ (E *ℤ N)) → E *ℤ M ≡ ((t *ℤ t) *ℤ C) +ℤ (D *ℤ D) → (N *ℤ (t *ℤ t)) ≤ℤ M
+        finish N t M E C D hE h k =
+            le_of _ _ (part_ok E (M -ℤ (N *ℤ (t *ℤ t))) hE
+            (subst (λ z. pos 0 ≤ℤ z) (sym (ring (E ∷ M ∷ N ∷ t ∷ []) (var 0 ⊗ (var 1 ⊖ (var 2 ⊗ (var 3 ⊗ var 3)))) ((var 0 ⊗ var 1) ⊖ ((var 0 ⊗ var 2) ⊗ (var 3 ⊗ var 3))) refl))
+            (join (E *ℤ M) ((t *ℤ t) *ℤ C) (D *ℤ D) ((E *ℤ N) *ℤ (t *ℤ t)) k (square_not_negative D)
+            (subst (λ z. pos 0 ≤ℤ z) (ring (t ∷ C ∷ E ∷ N ∷ []) ((var 0 ⊗ var 0) ⊗ (var 1 ⊖ (var 2 ⊗ var 3))) (((var 0 ⊗ var 0) ⊗ var 1) ⊖ ((var 2 ⊗ var 3) ⊗ (var 0 ⊗ var 0))) refl)
+            (not_below_times (t *ℤ t) (C -ℤ (E *ℤ N)) (square_not_negative t) h)))))
+          where
+            join : (s p d q : ℤ) → s ≡ p +ℤ d → pos 0 ≤ℤ d → pos 0 ≤ℤ (p -ℤ q) → pos 0 ≤ℤ (s -ℤ q)
+            join s p d q e h k = omega (arith, ints)
+
+    most : (q : ℕ) → (pos q *ℤ (((along v v -ℤ along u v) +ℤ (along u u -ℤ along u v)) *ℤ ((along v v -ℤ along u v) +ℤ (along u u -ℤ along u v)))) ≤ℤ norm (((along v v -ℤ along u v) *ℤ u.x) +ℤ ((along u u -ℤ along u v) *ℤ v.x)) (((along v v -ℤ along u v) *ℤ u.y) +ℤ ((along u u -ℤ along u v) *ℤ v.y)) → e * q ≤ m
+    most q o =
+        plain e m q (le_of _ _ (subst (λ z. pos 0 ≤ℤ (z -ℤ (pos e *ℤ pos q))) (sym hm) (subst (λ z. pos 0 ≤ℤ ((turn_of u v *ℤ turn_of u v) -ℤ (z *ℤ pos q))) (sym hg)
+        (cut (pos q) (gauge u v) (turn_of u v *ℤ turn_of u v) ((along v v -ℤ along u v) +ℤ (along u u -ℤ along u v)) _ (turned (along v v -ℤ along u v) (along u u -ℤ along u v)) (inside_norm u v) (subst (λ z. pos 0 <ℤ z) hg (omega (arith, ints))) o))))
+      where
+        plain : (e m q : ℕ) → (pos e *ℤ pos q) ≤ℤ pos m → e * q ≤ m
+        plain e m q h = omega (arith, ints)
+
+        turned : (s t : ℤ) → s +ℤ t ≡ t +ℤ s
+        turned s t = omega (arith, ints)
+
+        cut : (q E C t M : ℤ) → t ≡ E → M ≡ E *ℤ C → pos 0 <ℤ E → (q *ℤ (t *ℤ t)) ≤ℤ M → pos 0 ≤ℤ (C -ℤ (E *ℤ q))
+        cut q E C t M e f hE o =
+            part_ok E (C -ℤ (E *ℤ q)) hE
+            (subst (λ z. pos 0 ≤ℤ z) (ring (E ∷ C ∷ q ∷ []) ((var 0 ⊗ var 1) ⊖ (var 2 ⊗ (var 0 ⊗ var 0))) (var 0 ⊗ (var 1 ⊖ (var 0 ⊗ var 2))) refl)
+            (room _ _ (subst (λ z. (q *ℤ (E *ℤ E)) ≤ℤ z) f (subst (λ z. (q *ℤ (z *ℤ z)) ≤ℤ M) e o))))
+
+-- an inner product has no order
+pub along_swap : (u v : Pt) → along u v ≡ along v u
+along_swap u v = ring (u.x ∷ u.y ∷ v.x ∷ v.y ∷ []) ((var 0 ⊗ var 2) ⊕ (var 1 ⊗ var 3)) ((var 2 ⊗ var 0) ⊕ (var 3 ⊗ var 1)) refl

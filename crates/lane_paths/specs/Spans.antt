@@ -1,0 +1,35 @@
+-- How far the segment between two ways stays from 0.
+use Rattle.std.specs.Prelude.{◌≡◌, ◌⊎◌, ℕ, ◌≤◌, List, ℤ, pos, ◌+ℤ◌, ◌*ℤ◌, ◌≤ℤ◌}
+use Rattle.spot_terms.specs.Bodies.{IsGreatest}
+use Rattle.spot_terms.specs.Lists.{Includes}
+use Rattle.spot_terms.specs.Whole.{SizeAtMost}
+use Rattle.spot_terms.specs.declared.plain.Pt.{Pt}
+
+-- the squared distance of (x, y) from 0
+abbrev pub norm : ℤ → ℤ → ℤ
+norm x y = (x *ℤ x) +ℤ (y *ℤ y)
+
+-- no point of the segment from u to v has a squared distance from 0 below n
+abbrev pub StaysOff : Pt → Pt → ℕ → Type 0
+StaysOff u v n =
+    (a b : ℤ) → pos 0 ≤ℤ a → pos 0 ≤ℤ b → (pos n *ℤ ((a +ℤ b) *ℤ (a +ℤ b))) ≤ℤ norm ((a *ℤ u.x) +ℤ (b *ℤ v.x)) ((a *ℤ u.y) +ℤ (b *ℤ v.y))
+
+-- the span of u and v: the greatest whole number at most the squared distance of 0 from the segment between them
+abbrev pub IsSpan : Pt → Pt → ℕ → Type 0
+IsSpan u v n = IsGreatest (StaysOff u v) n
+
+-- n is the least of a number and the spans of u and each of the ways
+pub record IsLesserSpan (least : ℕ) (u : Pt) (ways : List Pt) (n : ℕ) : Type 0 where
+  pub at_most : n ≤ least
+  pub all : (v : Pt) → Includes ways v → StaysOff u v n
+  pub one : (n ≡ least) ⊎ ((v : Pt) × Includes ways v × IsSpan u v n)
+
+-- n is the least span of two of the ways
+pub record IsLeastSpan (ways : List Pt) (n : ℕ) : Type 0 where
+  pub all : (u v : Pt) → Includes ways u → Includes ways v → StaysOff u v n
+  pub one : (u v : Pt) × Includes ways u × Includes ways v × IsSpan u v n
+
+-- both coordinates are at most 10^9 in size
+pub record IsSmall (v : Pt) : Type 0 where
+  pub x : SizeAtMost 1_000_000_000 v.x
+  pub y : SizeAtMost 1_000_000_000 v.y

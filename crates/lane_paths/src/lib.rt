@@ -1,0 +1,19 @@
+//! Gaps of convex polygons, and labels: the least lengths of routes through a network. All lengths are whole µm.
+#![tactic(auto)]
+
+mod classes;
+mod gaps;
+mod label_table;
+mod links;
+mod nearest;
+mod rounds;
+
+pub use gaps::gap;
+pub use label_table::{LabelTable, labels};
+pub use lanelets::Network;
+pub use spot_terms::Pt;
+
+#[cfg(test)]
+mod label_tests;
+#[cfg(test)]
+mod tests;
