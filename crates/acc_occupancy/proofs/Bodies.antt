@@ -1,5 +1,5 @@
 -- The octagon of an interval holds the bodies.
-use Rattle.std.proofs.Common.{◌≡◌, ℕ, zero, suc, ◌+◌, ◌-◌, ◌*◌, ◌<◌, ◌≤◌, ◌⊎◌, inl, inr, cond, true, false, int_lt, refl, arith, ◌∙◌, ℤ, ◌≤ℤ◌, List, [], ◌∷◌, map, add-zero, mul-le-mul}
+use Rattle.std.proofs.Common.{◌≡◌, ℕ, zero, suc, ◌+◌, ◌-◌, ◌*◌, ◌<◌, ◌≤◌, ◌⊎◌, inl, inr, cond, true, false, int_lt, refl, arith, ◌∙◌, ℤ, ◌≤ℤ◌, List, add-zero, mul-le-mul}
 use Rattle.std.specs.Prelude.{nat_abs, slice_get, Some}
 use Rattle.std.proofs.lemmas.Int.{ints, clamps}
 use Rattle.std.proofs.lemmas.Bool.{cases_lt}
@@ -13,7 +13,8 @@ use Rattle.spot_terms.specs.Motions.{State}
 use Rattle.spot_terms.specs.Reach.{Normal, normals, along, reach_number, greatest_reach, interval_number, interval_numbers}
 use Rattle.spot_terms.specs.declared.plain.Pt.{Pt}
 use Rattle.spot_terms.specs.declared.plain.AccStart.{AccStart}
-use Rattle.convex_poly.proofs.Normals.{beside_map}
+use Rattle.spot_terms.proofs.ListLemmas.{beside_map}
+use Rattle.spot_terms.proofs.Members.{all_in_map}
 use Rattle.round_out.proofs.Discs.{along_in_disc}
 use Rattle.acc_occupancy.specs.Runs.{HoldsBodies}
 use Rattle.acc_occupancy.proofs.Sizes.{body_within, reach_number_within}
@@ -84,10 +85,6 @@ interval_number_within s k i n r l p q =
     let place = reach_number_within s n (i * k + j) r l in
     let around = body_within s n r l in
     rw same (omega (arith, ints))
-
-all_in_map : {X Y : Type 0} (P : Y → Type 0) (f : X → Y) (xs : List X) → ((x : X) → Includes xs x → P (f x)) → AllByRecursion P (map f xs)
-all_in_map P f [] h = tt
-all_in_map P f (x ∷ xs) h = (h x (inl refl), all_in_map P f xs (λ y i. h y (inr i)))
 
 pub interval_numbers_within : (s : AccStart) (k i : ℕ) → IsStart s → i < 100 → k ≤ 1000 → AllByRecursion (SizeAtMost 100_000_000_000_000) (interval_numbers s k i)
 unfolding interval_numbers

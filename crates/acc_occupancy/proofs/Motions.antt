@@ -12,7 +12,7 @@ use Rattle.spot_terms.specs.declared.plain.Pt.{Pt}
 use Rattle.spot_terms.specs.declared.plain.VBox.{VBox}
 use Rattle.spot_terms.specs.declared.plain.AccStart.{AccStart}
 use Rattle.spot_terms.proofs.Products.{products}
-use Rattle.convex_poly.proofs.Normals.{each_normal, along-east, along-north_east, along-north, along-north_west, along-west, along-south_west, along-south, along-south_east}
+use Rattle.spot_terms.proofs.Normals.{each_normal, along-east, along-north_east, along-north, along-north_west, along-west, along-south_west, along-south, along-south_east}
 use Rattle.round_out.proofs.Discs.{within_disc, sum_along, difference}
 use Rattle.acc_occupancy.proofs.Sizes.{a_small, v_small}
 use Rattle.acc_occupancy.proofs.StepLemmas.{step_at, bound_at, start_at}

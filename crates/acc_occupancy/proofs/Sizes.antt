@@ -10,7 +10,7 @@ use Rattle.spot_terms.specs.Reach.{Normal, normals, along, disc_number, box_numb
 use Rattle.spot_terms.specs.declared.plain.Pt.{Pt}
 use Rattle.spot_terms.specs.declared.plain.VBox.{VBox}
 use Rattle.spot_terms.specs.declared.plain.AccStart.{AccStart}
-use Rattle.convex_poly.proofs.Normals.{each_normal}
+use Rattle.spot_terms.proofs.Normals.{each_normal}
 use Rattle.round_out.proofs.Discs.{disc_number_le}
 
 -- a point of two small coordinates

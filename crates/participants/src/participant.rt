@@ -5,7 +5,7 @@ ghost use Rattle.spot_terms.specs.Ranges.{IsStart, IsMoverInRange};
 ghost use Rattle.participants.specs.Predictions.{AreOctagons, IsStartOf, IsParticipant};
 
 use crate::bounds::bounds_of;
-use acc_occupancy::interval_numbers;
+use acc_occupancy::AccRun;
 use convex_poly::OctNumbers;
 use heading::{start_speed, velocity_box};
 use spot_terms::{AccStart, Mover, Pt};
@@ -61,8 +61,9 @@ fn octagons(alloc: Global, s: &AccStart, k: u32, steps: u32) -> Result<OctList, 
     ensures { IfOk result (λ octagons. AreOctagons s.now k steps octagons) }
 {
     let mut items = Vec::with_capacity(alloc, steps as usize)?;
-    for i in 0..steps {
-        items.push(interval_numbers(s, k, i))?;
+    let mut run = AccRun::open(s, k);
+    for _ in 0..steps {
+        items.push(run.next())?;
     }
     Ok(OctList::from_vec(items))
 }

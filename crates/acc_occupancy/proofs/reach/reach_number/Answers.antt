@@ -1,6 +1,6 @@
 use Rattle.std.proofs.Common.{◌∙◌, to_z-of_z, FitsSigned, w64, rules}
 use Rattle.spot_terms.specs.Reach.{normal_at}
-use Rattle.convex_poly.proofs.Normals.{normal_at-included}
+use Rattle.spot_terms.proofs.Normals.{normal_at-included}
 use Rattle.acc_occupancy.proofs.Motions.{motion_reach}
 use Rattle.acc_occupancy.proofs.Ends.{line_place-is}
 use Rattle.acc_occupancy.proofs.reach.reach_number.Goals as goal

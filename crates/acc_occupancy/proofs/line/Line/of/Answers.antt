@@ -1,6 +1,6 @@
 use Rattle.std.proofs.Common.{rules}
 use Rattle.spot_terms.specs.Reach.{normal_at}
-use Rattle.convex_poly.proofs.Normals.{normal_at-included}
+use Rattle.spot_terms.proofs.Normals.{normal_at-included}
 use Rattle.acc_occupancy.proofs.Starts.{line_in_range}
 use Rattle.acc_occupancy.proofs.line.Line.of.Goals as goal
 
