@@ -1,3 +1,3 @@
 pub mod Simple
-pub mod DigitLemmas
 pub mod Unique
+pub mod Ranges

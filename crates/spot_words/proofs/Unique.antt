@@ -1,5 +1,5 @@
 -- The words stand for one command at most.
-use Rattle.std.proofs.Common.{◌≡◌, ◌∙◌, ℕ, List, Option, Some, ap, sym}
+use Rattle.std.proofs.Common.{◌≡◌, ◌∙◌, List, Some, sym}
 use Rattle.clap.specs.Words.{Text}
 use Rattle.spot_terms.specs.declared.command.Command.{Command}
 use Rattle.spot_words.specs.Words.{AreCommand}

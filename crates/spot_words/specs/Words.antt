@@ -1,10 +1,8 @@
 -- What the words of a command line stand for.
-use Rattle.std.specs.Prelude.{◌≡◌, ℕ, ◌&&◌, ◌≤◌, List, [], ◌∷◌, map, length, nat_lt, nat_le, Option, Some, None, option_map, option_and_then, find, String, string_bytes, if◌then◌else◌, codes, refl}
+use Rattle.std.specs.Prelude.{◌≡◌, ℕ, ◌&&◌, List, [], ◌∷◌, map, length, nat_lt, nat_le, Option, Some, None, option_map, option_and_then, find, String, string_bytes, if◌then◌else◌, codes, refl}
 use Rattle.std.specs.declared.alloc.Global.{Global}
-use Rattle.std.specs.List.{list_all}
-use Rattle.std.specs.Char.{is_ascii_digit}
 use Rattle.std.specs.Str.{bytes_eq}
-use Rattle.std.specs.Str.Parse.{digits_value}
+use Rattle.spot_terms.specs.Decimal.{digits_of}
 use Rattle.clap.proofs.OnLiterals.{clap_on_literals}
 use Rattle.clap.specs.Words.{Text, fault_of, matches_of, first_of}
 use Rattle.spot_terms.specs.declared.command.Task.{Task}
@@ -13,10 +11,6 @@ use Rattle.spot_terms.specs.declared.command.Command.{Command}
 use Rattle.spot_words.specs.Line.{spot_app}
 
 -- ---- numbers
-
--- the value of digits
-abbrev pub digits_of : Text → Option ℕ
-digits_of text = (if list_all is_ascii_digit text then Some (digits_value 10 text) else None)
 
 abbrev pub within : ℕ → ℕ → ℕ → Option ℕ
 within low high n = (if nat_le low n && nat_le n high then Some n else None)

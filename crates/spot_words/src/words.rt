@@ -4,6 +4,7 @@ ghost use Rattle.clap.specs.Words.{found_of, rows_of, first_of};
 ghost use Rattle.spot_words.specs.Words.{number_or, optional_number as optional_number_of, mode_named, StandsFor};
 ghost use Rattle.spot_words.specs.Parts.{ReadsEgo, ReadsGrid, ReadsSample, ReadsRows};
 ghost use Rattle.spot_terms.specs.declared.command.Command.{Command};
+ghost use Rattle.spot_terms.specs.Ranges.{IsCommandInRange};
 
 use crate::line::{option_text, parse};
 use crate::numbers::number_in;
@@ -134,6 +135,8 @@ fn command_in(matches: &ArgMatches<'_>) -> Option<Command>
 /// no command. The mode is one positional; each option takes one text of one to ten ASCII digits, within its range.
 pub fn read_words(alloc: Global, words: &Vec<String>) -> Result<Option<Command>, AllocError>
     ensures some { IfOk result (λ read. IfSome read (λ c. StandsFor words.now.items c)) }
+    ensures ranges { IfOk result (λ read. IfSome read IsCommandInRange) }
+    ensures only { IfOk result (λ read. IfSome read (λ c. (d : Command) → StandsFor words.now.items d → d ≡ c)) }
     ensures none { IfOk result (λ read. IfNone read ((c : Command) → StandsFor words.now.items c → ⊥)) }
 {
     match parse(alloc, words)? {
