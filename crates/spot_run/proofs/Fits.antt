@@ -4,6 +4,7 @@ use Rattle.std.specs.Prelude.{nat_abs, max, ◌≤ℤ◌}
 use Rattle.std.proofs.Common.{inl, inr}
 use Rattle.std.specs.List.{flat_map, AllByRecursion}
 use Rattle.std.proofs.lemmas.Int.{ints}
+use Rattle.spot_terms.proofs.Members.{all_in_map}
 use Rattle.spot_terms.specs.Lists.{Includes, Pairwise, numbers_from}
 use Rattle.spot_terms.specs.Whole.{SizeAtMost}
 use Rattle.spot_terms.specs.Ranges.{IsInRange, IsMoverInRange, IsFixedInRange, IsStart}
@@ -28,10 +29,6 @@ use Rattle.spot_run.specs.Lines.{line_of, obstacle_lines, octagon_line, octagon_
 all_append : {X : Type 0} (P : X → Type 0) (xs ys : List X) → AllByRecursion P xs → AllByRecursion P ys → AllByRecursion P (xs ++ ys)
 all_append P [] ys a b = b
 all_append P (x ∷ xs) ys a b = (a.0, all_append P xs ys a.1 b)
-
-all_map : {X Y : Type 0} (P : Y → Type 0) (f : X → Y) (xs : List X) → ((x : X) → Includes xs x → P (f x)) → AllByRecursion P (map f xs)
-all_map P f [] h = tt
-all_map P f (x ∷ xs) h = (h x (inl refl), all_map P f xs (λ y i. h y (inr i)))
 
 all_weaker : {X : Type 0} (P Q : X → Type 0) (xs : List X) → ((x : X) → P x → Q x) → AllByRecursion P xs → AllByRecursion Q xs
 all_weaker P Q [] h a = tt
@@ -59,7 +56,7 @@ fits_disc : (p : Pt) (r : ℕ) → nat_abs p.x ≤ 10_000_000_000_000 → nat_ab
 unfolding disc_numbers
 fits_disc p r a b h = (
   refl,
-  all_map (FitsSigned w64) (λ n. along n p +ℤ pos (disc_number n r)) normals (λ n i.
+  all_in_map (FitsSigned w64) (λ n. along n p +ℤ pos (disc_number n r)) normals (λ n i.
       let place : nat_abs (along n p) ≤ 2 * 10_000_000_000_000 = along_within p 10_000_000_000_000 n i a b in
       let reach : disc_number n r ≤ 2 * r = disc_number_le n r (omega (arith, h)) i in
       fits_size (along n p +ℤ pos (disc_number n r)) (near (along n p) (disc_number n r) (omega arith) (omega (arith, h)))),

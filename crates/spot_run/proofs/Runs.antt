@@ -1,11 +1,10 @@
 -- What a run says, from what its parts say.
-use Rattle.std.proofs.Common.{Bool, true, false, ◌≡◌, ◌∙◌, ◌⊎◌, inl, inr, ℕ, ◌<◌, ◌≤◌, List, [], ◌++◌, length, Option, Some, None, Err, refl, sym, ap, subst, arith, append-nil}
-use Rattle.std.specs.Prelude.{IfSome, IfNone, nat_lt, nat_le, option_and_then, ◌&&◌, if◌then◌else◌}
-use Rattle.std.proofs.lemmas.Bool.Decides.{nat_tests}
+use Rattle.std.proofs.Common.{◌≡◌, ◌∙◌, ◌⊎◌, inl, inr, ℕ, ◌<◌, ◌≤◌, List, [], ◌++◌, length, Option, Some, None, Err, refl, sym, ap, subst, arith, append-nil}
+use Rattle.std.specs.Prelude.{IfSome, IfNone}
 use Rattle.std.specs.Io.KnownBytes.{Appends}
 use Rattle.std.proofs.lemmas.List.{append_cancel_left}
 use Rattle.spot_terms.specs.Lists.{Includes}
-use Rattle.spot_terms.specs.Ranges.{IsInRange}
+use Rattle.spot_terms.specs.Ranges.{IsCommandInRange, IsInRange}
 use Rattle.spot_terms.specs.Report.{Line}
 use Rattle.spot_terms.specs.declared.command.Command.{Command}
 use Rattle.spot_terms.specs.declared.command.Task.TheVariants.{Predict}
@@ -17,14 +16,14 @@ use Rattle.spot_terms.specs.declared.status.Status.{Status}
 use Rattle.spot_terms.specs.declared.status.Status.TheVariants.{Open, Empty, BadWords, Refused, Limit, ReadFault, WriteFault, Memory}
 use Rattle.spot_terms.proofs.ReportText.{texts_tell}
 use Rattle.spot_tree.proofs.Readings.{one_tree, tree_is_json, tree_has_no_fault}
+use Rattle.scenario.proofs.OneRefusal.{one_refusal}
 use Rattle.scenario.proofs.Unique.{scenario_is_one}
 use Rattle.spot_claims.specs.Tree.{Element, IsTreeOf}
 use Rattle.spot_claims.specs.Paths.{at_path, lanelets}
-use Rattle.spot_claims.specs.Profile.{IsAccepted}
+use Rattle.spot_claims.specs.Profile.{IsAccepted, IsRefused}
 use Rattle.spot_claims.specs.Scenario.{IsScenario, IsScenarioOf}
 use Rattle.spot_claims.specs.Headline.{HoldsTick, CoversParticipants, Headline}
-use Rattle.spot_claims.specs.Answers.{Meaning, AreForOtherTask, AreForPredict, AreNoCommand, IsBuilt, HasLanelets, IsRefusedAt, IsOfCheck, IsRead, ExactlyWhere, BadWordsExactly, NotJsonExactly, NotTreeExactly, RefusedExactly, IsFirstCheck, NotYetExactly, TooLongExactly, IsKnown, ReadsSource, Completes, TakesReport, IsWritten, WritesReport, most_bytes}
-use Rattle.spot_words.specs.Words.{digits_of, within, number_or}
+use Rattle.spot_claims.specs.Answers.{Meaning, AreForOtherTask, AreForPredict, AreNoCommand, IsBuilt, HasLanelets, IsRefusedAt, IsOfCheck, IsRead, ExactlyWhere, BadWordsExactly, NotJsonExactly, NotTreeExactly, RefusedExactly, NotYetExactly, TooLongExactly, IsKnown, ReadsSource, Completes, TakesReport, IsWritten, WritesReport, most_bytes}
 use Rattle.spot_run.specs.Lines.{prediction_lines}
 use Rattle.spot_run.specs.Loads.{Loads, IsLoadFault}
 use Rattle.spot_run.specs.Writes.{report_of, TakesPrediction, WritesPrediction}
@@ -47,18 +46,13 @@ read_some W o c e h = subst (λ (x : Option Command). IfSome x (λ d. W d)) e h
 pub read_none : (X : Type 0) (o : Option Command) → o ≡ None → IfNone o X → X
 read_none X o e h = subst (λ (x : Option Command). IfNone x X) e h
 
+-- where no other command is read, there is one at most
+pub one_of : (W : Meaning) (c : Command) → ((d : Command) → W d → d ≡ c) → IsOne W
+one_of W c only a b stands other = only a stands ∙ sym (only b other)
+
 -- a command has at most a hundred steps
-within_high : (low high k n : ℕ) → within low high k ≡ Some n → n ≤ high
-within_high low high k n e = grind (arith, nat_tests)
-
-in_high : (low high n : ℕ) (text : List ℕ) (b : Bool) (o : Option ℕ) → (if b then option_and_then (within low high) o else None) ≡ Some n → n ≤ high
-in_high low high n text false o e = cc
-in_high low high n text true None e = cc
-in_high low high n text true (Some k) e = within_high low high k n e
-
-pub few_steps : (o : Option (List ℕ)) (n : ℕ) → number_or 1 100 30 o ≡ Some n → n ≤ 100
-few_steps None n e = let same : 30 ≡ n = cc in omega (arith, same)
-few_steps (Some text) n e = in_high 1 100 n text (nat_lt 0 (length text) && nat_le (length text) 10) (digits_of text) e
+pub few_steps : (c : Command) → IsCommandInRange c → c.steps ≤ 100
+few_steps c h = h.steps.1
 
 -- ---- what was appended
 
@@ -252,9 +246,9 @@ not_tree_written W told before after steps status s known h = λ bytes place tol
 }
 
 pub refused_written : (W : Meaning) (told before after : Option (List ℕ)) (steps : ℕ) (status : Status) (s : Scenario) → Knows told s → WritesPrediction s steps before after status → RefusedExactly W told status
-refused_written W told before after steps status s known h = λ bytes told_is. record {
-  only = λ code place of e. absurd (subst (WritesPrediction s steps before after) e h);
-  comes = λ code place cause. absurd (not_refused bytes s code place (known bytes told_is) cause.1);
+refused_written W told before after steps status s known h = λ bytes code place told_is of. record {
+  only = λ e. absurd (subst (WritesPrediction s steps before after) e h);
+  comes = λ cause. absurd (not_refused bytes s code place (known bytes told_is) cause.1);
 }
 
 -- ---- after a fault of loading
@@ -317,22 +311,29 @@ same_code a b p q e = cc
 same_place : (a b : Code) (p q : ℕ) → Refused a p ≡ Refused b q → p ≡ q
 same_place a b p q e = cc
 
+-- bytes are refused in one way at most
+same_refusal : (bytes : List ℕ) (code reason : Code) (place other : ℕ) → IsRefusedAt bytes code place → IsRefusedAt bytes reason other → Refused reason other ≡ Refused code place
+same_refusal bytes code reason place other (tree, tree_is, refused) (again, again_is, first) =
+    let one = one_refusal bytes again place other code reason again_is (subst (λ x. IsRefused x place code) (one_tree bytes tree again tree_is again_is) refused) first in
+    sym (ap (λ p. Refused code p) one.0 ∙ ap (λ c. Refused c other) one.1)
+
 -- the refusal of a loading that answered a status
-refused_of : (W : Meaning) (bytes : List ℕ) (left : Option (List ℕ)) (status : Status) → AreForPredict W → Loads bytes left (Err status) → IsLoadFault status → IsFirstCheck W bytes status
-refused_of W bytes left ReadFault for h k = record { only = λ code place of e. cc; comes = λ code place cause. inr (inr refl) }
-refused_of W bytes left Memory for h k = record { only = λ code place of e. cc; comes = λ code place cause. inr (inl refl) }
-refused_of W bytes left (Limit TooLong step count) for h k = record { only = λ code place of e. cc; comes = λ code place cause. let few = cause.0.1 in let many = h.0 in absurd (omega (arith, few, many)) }
-refused_of W bytes left (Refused NotJson place') for h k = record { only = λ code place of e. let same : NotJson ≡ code = cc in absurd (subst IsOfCheck (sym same) of); comes = λ code place cause. absurd (tree_is_json bytes cause.1.0 cause.1.1 h.1) }
-refused_of W bytes left (Refused NotTree place') for h k = record { only = λ code place of e. let same : NotTree ≡ code = cc in absurd (subst IsOfCheck (sym same) of); comes = λ code place cause. absurd (tree_has_no_fault bytes cause.1.0 place' cause.1.1 h.1) }
-refused_of W bytes left (Refused NotYet place') for h k = record { only = λ code place of e. let same : NotYet ≡ code = cc in absurd (subst IsOfCheck (sym same) of); comes = λ code place cause. absurd (not_both bytes h.1.0 code place h.1.1 h.1.2 cause.1) }
-refused_of W bytes left (Refused answered place') for h k = record {
-  only = λ code place of e. ((for, h.0.0), subst (λ c. IsRefusedAt bytes c place) (same_code answered code place' place e) (subst (IsRefusedAt bytes answered) (same_place answered code place' place e) h.1));
-  comes = λ code place cause. inl (answered, place', refl, h.1);
+refused_of : (W : Meaning) (bytes : List ℕ) (code : Code) (place : ℕ) (left : Option (List ℕ)) (status : Status) → IsOfCheck code → AreForPredict W → Loads bytes left (Err status) → IsLoadFault status
+    → ExactlyWhere (IsRead W bytes × IsRefusedAt bytes code place) (Refused code place) status
+refused_of W bytes code place left ReadFault of for h k = record { only = λ e. cc; comes = λ cause. inr (inr refl) }
+refused_of W bytes code place left Memory of for h k = record { only = λ e. cc; comes = λ cause. inr (inl refl) }
+refused_of W bytes code place left (Limit TooLong step count) of for h k = record { only = λ e. cc; comes = λ cause. let few = cause.0.1 in let many = h.0 in absurd (omega (arith, few, many)) }
+refused_of W bytes code place left (Refused NotJson other) of for h k = record { only = λ e. absurd (subst IsOfCheck (sym (same_code NotJson code other place e)) of); comes = λ cause. absurd (tree_is_json bytes cause.1.0 cause.1.1 h.1) }
+refused_of W bytes code place left (Refused NotTree other) of for h k = record { only = λ e. absurd (subst IsOfCheck (sym (same_code NotTree code other place e)) of); comes = λ cause. absurd (tree_has_no_fault bytes cause.1.0 other cause.1.1 h.1) }
+refused_of W bytes code place left (Refused NotYet other) of for h k = record { only = λ e. absurd (subst IsOfCheck (sym (same_code NotYet code other place e)) of); comes = λ cause. absurd (not_both bytes h.1.0 code place h.1.1 h.1.2 cause.1) }
+refused_of W bytes code place left (Refused answered other) of for h k = record {
+  only = λ e. ((for, h.0.0), subst (λ c. IsRefusedAt bytes c place) (same_code answered code other place e) (subst (IsRefusedAt bytes answered) (same_place answered code other place e) h.1));
+  comes = λ cause. inl (same_refusal bytes code answered place other cause.1 h.1);
 }
-refused_of W bytes left status for h k = absurd k
+refused_of W bytes code place left status of for h k = absurd k
 
 pub refused_at : (W : Meaning) (told left : Option (List ℕ)) (status : Status) (c : Command) → W c → c.task ≡ Predict → ((bytes : List ℕ) → told ≡ Some bytes → Loads bytes left (Err status)) → IsLoadFault status → RefusedExactly W told status
-refused_at W told left status c stands task loads fault = λ bytes told_is. refused_of W bytes left status (c, stands, task) (loads bytes told_is) fault
+refused_at W told left status c stands task loads fault = λ bytes code place told_is of. refused_of W bytes code place left status of (c, stands, task) (loads bytes told_is) fault
 
 pub refused_no_command : (W : Meaning) (told : Option (List ℕ)) → AreNoCommand W → RefusedExactly W told BadWords
-refused_no_command W told nothing = λ bytes told_is. record { only = λ code place of e. cc; comes = λ code place cause. absurd (nothing cause.0.0.0 cause.0.0.1) }
+refused_no_command W told nothing = λ bytes code place told_is of. record { only = λ e. cc; comes = λ cause. absurd (nothing cause.0.0.0 cause.0.0.1) }
