@@ -1,1 +1,2 @@
 pub mod StatusLines
+pub mod Endings

@@ -4,25 +4,45 @@
 
 mod status_line;
 
-ghost use Rattle.std.specs.Prelude.{◌≡◌, ◌≢◌};
+ghost use Rattle.std.specs.Prelude.{◌≡◌, ◌≢◌, []};
+ghost use Rattle.std.specs.Io.Buffered.{writer_buffer, writer_contents};
+ghost use Rattle.std.specs.Io.KnownBytes.{Keeps};
 ghost use Rattle.std.specs.IoError.{error_kind};
 ghost use Rattle.std.specs.Process.{exit_status};
-ghost use Rattle.spot_claims.specs.Answers.{BadWordsExactly, NotYetExactly, TooLongExactly, NotJsonExactly, NotTreeExactly, IsKnown};
+ghost use Rattle.spot_claims.specs.Answers.{BadWordsExactly, NotYetExactly, TooLongExactly, NotJsonExactly, NotTreeExactly, RefusedExactly, IsKnown};
 ghost use Rattle.spot_words.specs.Words.{StandsFor};
-ghost use Rattle.spot_terms.specs.Statuses.{status_number};
+ghost use Rattle.spot_terms.specs.Statuses.{IsDone, status_number};
+ghost use Rattle.spot_cli.specs.Endings.{EndsAs};
 
 use spot_io::{StdSink, StdSource};
 use spot_run::run_spot;
 use spot_terms::Status;
 use status_line::StatusLine;
 use std::alloc::Global;
-use std::io::{ErrorKind, Read, Write};
+use std::io::{BufWriter, ErrorKind, Read, Write};
 use std::process::ExitCode;
 use std::{env, io};
 
 // The program's words, its own name first. An error where there is no memory for them, or where one isn't text.
 fn words(rt: &HostRuntime) -> io::Result<Vec<String>> {
     Ok(env::args(rt)?.collect(rt.alloc())?)
+}
+
+// How much of a report is handed to the writer at once, in bytes.
+const BUFFER: usize = 65_536;
+
+// How a run ends once what is left in the buffer is written: a report is written only then.
+fn flushed<W: Write + Drop>(status: Status, writer: &mut BufWriter<W>) -> Status
+    ensures ends { EndsAs status result }
+    ensures emptied { IsDone result → writer_buffer writer.new ≡ [] }
+    ensures kept { Keeps (writer_contents W.contents writer.old) (writer_contents W.contents writer.new) }
+{
+    let done = matches!(status, Status::Open | Status::Empty(_));
+    if done && writer.flush().is_err() {
+        Status::WriteFault
+    } else {
+        status
+    }
 }
 
 // Runs on what a reader gives, and writes the report to a writer. The words and the bytes decide how it ends, but for want
@@ -39,16 +59,18 @@ fn run<R: Read + Drop, W: Write + Drop>(
     ensures too_long { TooLongExactly (StandsFor words.now.items) (R.remaining reader) result }
     ensures not_json { NotJsonExactly (StandsFor words.now.items) (R.remaining reader) result }
     ensures not_tree { NotTreeExactly (StandsFor words.now.items) (R.remaining reader) result }
+    ensures refused { RefusedExactly (StandsFor words.now.items) (R.remaining reader) result }
 {
+    let Ok(inner) = BufWriter::with_capacity(alloc, BUFFER, writer) else {
+        return Status::Memory;
+    };
     let mut source = StdSource {
         inner: reader,
         count: 0,
     };
-    let mut sink = StdSink {
-        inner: writer,
-        count: 0,
-    };
-    run_spot(alloc, words, &mut source, &mut sink)
+    let mut sink = StdSink { inner, count: 0 };
+    let status = run_spot(alloc, words, &mut source, &mut sink);
+    flushed(status, &mut sink.inner)
 }
 
 // How the program ends where its words can't be had: words that aren't text stand for no command.

@@ -1,0 +1,18 @@
+use Rattle.spot_cli.proofs.Endings.{not_yet_still, too_long_still, not_json_still, not_tree_still, refused_still}
+use Rattle.spot_words.specs.Words.{StandsFor}
+use Rattle.spot_cli.proofs.run.Goals as goal
+
+pub returns-clause-not_yet : goal.returns-clause-not_yet
+returns-clause-not_yet g c = not_yet_still (StandsFor c.args.words.now.items) (g.R.Read.remaining c.args.reader) c.run_spot-status.result c.flushed.result c.flushed.ensures.ends c.run_spot-status.ensures.not_yet
+
+pub returns-clause-too_long : goal.returns-clause-too_long
+returns-clause-too_long g c = too_long_still (StandsFor c.args.words.now.items) (g.R.Read.remaining c.args.reader) c.run_spot-status.result c.flushed.result c.flushed.ensures.ends c.run_spot-status.ensures.too_long
+
+pub returns-clause-not_json : goal.returns-clause-not_json
+returns-clause-not_json g c = not_json_still (StandsFor c.args.words.now.items) (g.R.Read.remaining c.args.reader) c.run_spot-status.result c.flushed.result c.flushed.ensures.ends c.run_spot-status.ensures.not_json
+
+pub returns-clause-not_tree : goal.returns-clause-not_tree
+returns-clause-not_tree g c = not_tree_still (StandsFor c.args.words.now.items) (g.R.Read.remaining c.args.reader) c.run_spot-status.result c.flushed.result c.flushed.ensures.ends c.run_spot-status.ensures.not_tree
+
+pub returns-clause-refused : goal.returns-clause-refused
+returns-clause-refused g c = refused_still (StandsFor c.args.words.now.items) (g.R.Read.remaining c.args.reader) c.run_spot-status.result c.flushed.result c.flushed.ensures.ends c.run_spot-status.ensures.refused
