@@ -88,7 +88,7 @@ fn labels_from(
 }
 
 /// The labels of two lanelets, the first of which refers to the second by these ids.
-fn labels_of_two(
+pub(crate) fn labels_of_two(
     alloc: Global,
     first: &[[u16; 4]],
     successors: &[u32],

@@ -14,6 +14,8 @@ pub use lanelets::Network;
 pub use spot_terms::Pt;
 
 #[cfg(test)]
+mod label_rows;
+#[cfg(test)]
 mod label_tests;
 #[cfg(test)]
 mod tests;
