@@ -14,3 +14,4 @@ pub mod HullLaws
 pub mod QuotientBounds
 pub mod Gaps
 pub mod Distinct
+pub mod Listings

@@ -10,9 +10,13 @@ pub mod Gaps
 pub mod Hull
 pub mod HullLaws
 pub mod Ids
+pub mod LaneMotions
+pub mod LanePolygons
+pub mod Limits
 pub mod Lists
 pub mod Motions
 pub mod Network
+pub mod Participants
 pub mod Ranges
 pub mod Reach
 pub mod Report

@@ -1,5 +1,6 @@
--- Lists, by cases: what is in one, and whether twice, two in step, and the numbers below a number.
-use Rattle.std.specs.Prelude.{◌≡◌, ◌⊎◌, ℕ, zero, suc, ◌+◌, List, [], ◌∷◌, ◌++◌}
+-- Lists, by cases: what is in one, and whether twice, two in step, and lists of numbers.
+use Rattle.std.specs.Prelude.{◌≡◌, ◌⊎◌, ℕ, zero, suc, ◌+◌, ◌<◌, List, [], ◌∷◌, ◌++◌}
+use Rattle.std.specs.List.{AllByRecursion}
 
 -- x is an item of the list
 abbrev pub Includes : {X : Type 0} → List X → X → Type 0
@@ -33,3 +34,14 @@ numbers_from n (suc count) = n ∷ numbers_from (n + 1) count
 unfoldable pub numbers_below : ℕ → List ℕ
 numbers_below zero = []
 numbers_below (suc n) = numbers_below n ++ n ∷ []
+
+-- each number is below all later ones
+abbrev pub Rises : List ℕ → Type 0
+Rises [] = Unit {0}
+Rises (x ∷ xs) = AllByRecursion (λ y. x < y) xs × Rises xs
+
+-- exactly the numbers of which P holds, each once, by number
+pub record Lists (P : ℕ → Type 0) (xs : List ℕ) : Type 0 where
+  pub rises : Rises xs
+  pub each : (x : ℕ) → Includes xs x → P x
+  pub all : (x : ℕ) → P x → Includes xs x
