@@ -1,20 +1,22 @@
 -- When each answer of the top call comes, and what stands after it.
 use Rattle.std.specs.Prelude.{◌≡◌, ◌⊎◌, ℕ, ◌<◌, ◌≤◌, List, [], ◌++◌, length, Option, Some, None}
 use Rattle.spot_terms.specs.Causes.{Takes}
+use Rattle.spot_terms.specs.Cells.{cells}
+use Rattle.spot_terms.specs.Limits.{HasNetwork, IsFirstWide}
+use Rattle.spot_terms.specs.Participants.{HasPairs}
 use Rattle.spot_terms.specs.Statuses.{IsDone}
 use Rattle.spot_terms.specs.Report.{Line, report_text, IsReport}
 use Rattle.spot_terms.specs.declared.command.Command.{Command}
 use Rattle.spot_terms.specs.declared.command.Task.TheVariants.{Predict}
 use Rattle.spot_terms.specs.declared.status.Code.{Code}
 use Rattle.spot_terms.specs.declared.status.Code.TheVariants.{NotJson, NotTree, Root, Version, Missing, BadNumber, OutOfRange, StepSize, BadId, DuplicateId, BoundCount, UncertainPosition, UncertainValue, TooManyParticipants, NotYet}
-use Rattle.spot_terms.specs.declared.status.Which.TheVariants.{TooLong}
+use Rattle.spot_terms.specs.declared.status.Which.TheVariants.{TooLong, TooManyCells, LaneTooWide, TooManyLanePolygons}
 use Rattle.spot_terms.specs.declared.status.Status.{Status}
 use Rattle.spot_terms.specs.declared.status.Status.TheVariants.{Open, Empty, BadWords, Refused, Limit, ReadFault, WriteFault, Memory}
 use Rattle.spot_terms.specs.declared.scenario.Scenario.{Scenario}
 use Rattle.spot_claims.specs.Tree.{Element, IsTreeOf, IsNoJson, HasFaultAt}
-use Rattle.spot_claims.specs.Paths.{at_path, lanelets}
 use Rattle.spot_claims.specs.Profile.{IsAccepted, IsRefused}
-use Rattle.spot_claims.specs.Scenario.{IsScenario}
+use Rattle.spot_claims.specs.Scenario.{IsScenario, IsScenarioOf}
 use Rattle.spot_claims.specs.ReportOf.{IsPredictReport}
 
 -- which command the words stand for
@@ -53,20 +55,23 @@ AreForPredict Stands = (c : Command) × Stands c × (c.task ≡ Predict)
 abbrev pub IsRead : Meaning → List ℕ → Type 0
 IsRead Stands bytes = AreForPredict Stands × (length bytes ≤ most_bytes)
 
--- the bytes are those of an accepted tree with a lanelet
-abbrev pub HasLanelets : List ℕ → Type 0
-HasLanelets bytes = (tree : List Element) × IsTreeOf bytes tree × IsAccepted tree × (at_path tree lanelets ≡ [] → ⊥)
-
 -- the bytes are those of a tree whose first failing check is this one
 abbrev pub IsRefusedAt : List ℕ → Code → ℕ → Type 0
 IsRefusedAt bytes code place = (tree : List Element) × IsTreeOf bytes tree × IsRefused tree place code
 
--- the bytes are those of an accepted tree without lanelets, which has this scenario
-pub record IsBuilt (bytes : List ℕ) (s : Scenario) : Type 0 where
-  pub tree : List Element
-  pub tree_is : IsTreeOf bytes tree
-  pub scenario : IsScenario tree s
-  pub free : at_path tree lanelets ≡ []
+-- the bytes are those of an accepted scenario
+pub record IsAccepting (Stands : Meaning) (bytes : List ℕ) (s : Scenario) : Type 0 where
+  pub read : IsRead Stands bytes
+  pub scenario : IsScenarioOf bytes s
+
+-- the most pairs of a participant and one of its lane polygons
+abbrev pub most_pairs : ℕ
+most_pairs = 262144
+
+-- the scenario has a network, and no more lane polygons than may be
+pub record IsWithinLimits (s : Scenario) (c : Command) : Type 0 where
+  pub network : HasNetwork s.lanelets.entries
+  pub pairs : (n : ℕ) → HasPairs s c.steps n → n ≤ most_pairs
 
 -- the codes of the checks of a tree
 abbrev pub IsOfCheck : Code → Type 0
@@ -108,11 +113,28 @@ abbrev pub RefusedExactly : Meaning → Option (List ℕ) → Status → Type 0
 RefusedExactly Stands told status = (bytes : List ℕ) (code : Code) (place : ℕ) → told ≡ Some bytes → IsOfCheck code
     → ExactlyWhere (IsRead Stands bytes × IsRefusedAt bytes code place) (Refused code place) status
 
--- what isn't built yet: another task, whatever the source tells, and lanelets
-pub record NotYetExactly (Stands : Meaning) (told : Option (List ℕ)) (status : Status) : Type 0 where
-  pub task : AreForOtherTask Stands → (status ≡ Refused NotYet 0) ⊎ (status ≡ Memory)
-  pub lanelets : (bytes : List ℕ) → told ≡ Some bytes
-      → ExactlyWhere (AreForOtherTask Stands ⊎ (IsRead Stands bytes × HasLanelets bytes)) (Refused NotYet 0) status
+-- the number of all cells is answered, where they are too many
+abbrev pub TooManyCellsExactly : Meaning → Option (List ℕ) → Status → Type 0
+TooManyCellsExactly Stands told status = (bytes : List ℕ) (count : ℕ) → told ≡ Some bytes
+    → ExactlyWhere ((s : Scenario) × IsAccepting Stands bytes s × (count ≡ length (cells s.lanelets.entries)) × (100_000 < count))
+    (Limit TooManyCells 0 count) status
+
+-- the id of the first lanelet that is too wide is answered, where there is one
+abbrev pub LaneTooWideExactly : Meaning → Option (List ℕ) → Status → Type 0
+LaneTooWideExactly Stands told status = (bytes : List ℕ) (id : ℕ) → told ≡ Some bytes
+    → ExactlyWhere ((s : Scenario) × IsAccepting Stands bytes s × (length (cells s.lanelets.entries) ≤ 100_000) × IsFirstWide s.lanelets.entries (Some id))
+    (Limit LaneTooWide 0 id) status
+
+-- the number of all lane polygons is answered, where they are too many
+abbrev pub TooManyLanePolygonsExactly : Meaning → Option (List ℕ) → Status → Type 0
+TooManyLanePolygonsExactly Stands told status = (bytes : List ℕ) (count : ℕ) → told ≡ Some bytes
+    → ExactlyWhere ((c : Command) × Stands c × (s : Scenario) × IsAccepting Stands bytes s × HasNetwork s.lanelets.entries × HasPairs s c.steps count × (most_pairs < count))
+    (Limit TooManyLanePolygons 0 count) status
+
+-- another task isn't built yet, and then the source isn't read
+pub record NotYetExactly (Stands : Meaning) (status : Status) : Type 0 where
+  pub only : status ≡ Refused NotYet 0 → AreForOtherTask Stands
+  pub comes : AreForOtherTask Stands → (status ≡ Refused NotYet 0) ⊎ (status ≡ Memory)
 
 -- no other code and no other limit is answered
 abbrev pub IsKnown : Status → Type 0
@@ -121,6 +143,9 @@ IsKnown (Refused NotTree place) = Unit {0}
 IsKnown (Refused NotYet place) = place ≡ 0
 IsKnown (Refused code place) = IsOfCheck code
 IsKnown (Limit TooLong step count) = (step ≡ 0) × (count ≡ 67108865)
+IsKnown (Limit TooManyCells step count) = step ≡ 0
+IsKnown (Limit LaneTooWide step id) = step ≡ 0
+IsKnown (Limit TooManyLanePolygons step count) = step ≡ 0
 IsKnown (Limit which step count) = ⊥
 IsKnown (Empty step) = ⊥
 IsKnown status = Unit {0}
@@ -141,7 +166,8 @@ pub record Writes (Stands : Meaning) (bytes old new : List ℕ) (status : Status
   pub stands : Stands command
   pub task : command.task ≡ Predict
   pub scenario : Scenario
-  pub built : IsBuilt bytes scenario
+  pub scenario_is : IsScenarioOf bytes scenario
+  pub within : IsWithinLimits scenario command
   pub lines : List Line
   pub report : IsPredictReport scenario command lines
   pub fits : IsReport lines
@@ -170,18 +196,19 @@ pub record ReadsSource (Stands : Meaning) (told left : Option (List ℕ)) (statu
 
 -- ---- completeness
 
--- where the words stand for a prediction, the source tells what is built, and no count of faults rose, the whole report
--- was written, or memory ran out
+-- where the words stand for a prediction, the source tells an accepted scenario within the limits, and no count of faults
+-- rose, the whole report was written, or memory ran out
 abbrev pub Completes : Meaning → Option (List ℕ) → Type 0 → Status → Type 0
-Completes Stands told risen status = (bytes : List ℕ) → AreForPredict Stands → told ≡ Some bytes → length bytes ≤ most_bytes
-    → (tree : List Element) → IsTreeOf bytes tree → IsAccepted tree → at_path tree lanelets ≡ [] → (risen → ⊥) → (status ≡ Open) ⊎ (status ≡ Memory)
+Completes Stands told risen status = (bytes : List ℕ) (c : Command) → Stands c → c.task ≡ Predict → told ≡ Some bytes → length bytes ≤ most_bytes
+    → (tree : List Element) → IsTreeOf bytes tree → IsAccepted tree → ((s : Scenario) → IsScenario tree s → IsWithinLimits s c)
+    → (risen → ⊥) → (status ≡ Open) ⊎ (status ≡ Memory)
 
 -- ---- what is asked of the sink
 
 -- it can take the report of the told bytes, or of all bytes where they aren't told; a refusal has no report
 abbrev pub TakesReport : Meaning → Option (List ℕ) → (ℕ → Type 0) → Type 0
 TakesReport Stands told Takes = (bytes : List ℕ) → IsToldOr told bytes → (c : Command) (s : Scenario) (lines : List Line)
-    → Stands c → c.task ≡ Predict → IsBuilt bytes s → IsPredictReport s c lines → Takes (length (report_text lines))
+    → Stands c → c.task ≡ Predict → IsScenarioOf bytes s → IsWithinLimits s c → IsPredictReport s c lines → Takes (length (report_text lines))
   where
     IsToldOr : Option (List ℕ) → List ℕ → Type 0
     IsToldOr None bytes = Unit {0}
