@@ -4,12 +4,11 @@ use Rattle.std.proofs.lemmas.Bool.{cases_eq}
 use Rattle.std.proofs.lemmas.List.{drop_all, drop_more}
 use Rattle.std.specs.Prelude.{Option, Some, None, slice_get, if◌then◌else◌}
 use Rattle.spot_terms.specs.Cells.{Lane, Portal, NetCell, follows, same_portal, first_portal, last_portal, bridge_cell, bridge_between, bridges_to, bridges_from}
-use Rattle.spot_terms.specs.Lists.{Includes}
+use Rattle.spot_terms.specs.Lists.{Includes, Lists, Rises}
 use Rattle.spot_terms.specs.declared.network.Origin.TheVariants.{Bridge}
 use Rattle.spot_terms.proofs.ListLemmas.{all_included, includes_at}
 use Rattle.lanelets.specs.Bridges.{IsBridge, bridges_of, bridges_from_lane}
 use Rattle.lanelets.specs.Links.{IsFollowed}
-use Rattle.lanelets.specs.Listing.{Lists, Rises}
 use Rattle.lanelets.specs.Made.{Adds, IsPlaced}
 use Rattle.lanelets.specs.declared.cell.Placed.{Placed}
 use Rattle.lanelets.proofs.Places.{drop_at, place_below, same_at}

@@ -3,12 +3,14 @@ use Rattle.std.proofs.Common.{◌≡◌, ℕ, ◌+◌, ◌<◌, ◌≤◌, Bool,
 use Rattle.std.specs.List.{AllByRecursion}
 use Rattle.std.specs.Prelude.{Option, Some, None, slice_get, if◌then◌else◌}
 use Rattle.spot_terms.specs.Cells.{Lane, Portal, NetCell, cells, cells_from, lane_cells, follows, same_portal, first_portal, last_portal, bridge_cell, bridges_to, bridges_from}
-use Rattle.spot_terms.specs.Lists.{Pairwise}
+use Rattle.spot_terms.specs.Lists.{Lists, Pairwise}
 use Rattle.spot_terms.specs.Network.{IsAhead, lane_of}
 use Rattle.spot_terms.specs.declared.network.Origin.{Origin}
 use Rattle.spot_terms.specs.declared.network.Origin.TheVariants.{Part, Bridge}
 use Rattle.convex_poly.proofs.ChainSteps.{all_append}
 use Rattle.lanelets.specs.declared.cell.Placed.{Placed}
+use Rattle.lanelets.specs.declared.classes.Classes.{Classes}
+use Rattle.lanelets.specs.Beside.{AreClasses, IsBeside}
 use Rattle.lanelets.specs.Built.{IsCellAt}
 use Rattle.lanelets.specs.Listing.{AreLists}
 use Rattle.lanelets.specs.Made.{IsPlaced}
@@ -94,3 +96,11 @@ made_inside lanes made p = placed_inside (length lanes) lanes (cells lanes) made
 pub ahead_as : (lanes : List Lane) (made : List Placed) (next : List (List ℕ)) → Pairwise (IsPlaced lanes) (cells lanes) made → AreLists (IsAhead lanes (net_of made)) (length made) next → AreLists (IsAhead lanes (cells lanes)) (length (cells lanes)) next
 ahead_as lanes made next p a =
     subst (λ (n : ℕ). AreLists (IsAhead lanes (cells lanes)) n next) (as_many lanes made p) (subst (λ (net : List NetCell). AreLists (IsAhead lanes net) (length made) next) (same_net lanes (cells lanes) made p) a)
+
+pub classes_as : (lanes : List Lane) (made : List Placed) (classes : Classes) → Pairwise (IsPlaced lanes) (cells lanes) made → AreClasses lanes (net_of made) classes → AreClasses lanes (cells lanes) classes
+classes_as lanes made classes p a = subst (λ (net : List NetCell). AreClasses lanes net classes) (same_net lanes (cells lanes) made p) a
+
+-- the class of the cell whose number was read
+pub class_at : (lanes : List Lane) (classes : Classes) (c k : ℕ) → AreClasses lanes (cells lanes) classes → c < length (cells lanes) → k ≡ get_or classes.numbers.items c k
+    → (list : List ℕ) × (slice_get classes.cells.items k ≡ Some list) × Lists (λ d. IsBeside lanes (cells lanes) d c) list
+class_at lanes classes c k a h e = let many = a.many in a.each c k (read_at classes.numbers.items c k (omega (arith, h, many)) e)

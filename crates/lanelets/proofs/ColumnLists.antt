@@ -4,9 +4,9 @@ use Rattle.std.proofs.lemmas.Bool.{cases_eq}
 use Rattle.std.proofs.lemmas.List.{length-set}
 use Rattle.std.specs.Prelude.{Some, slice_get}
 use Rattle.std.specs.List.{AllByRecursion}
-use Rattle.spot_terms.specs.Lists.{Includes}
+use Rattle.spot_terms.specs.Lists.{Includes, Lists}
 use Rattle.spot_terms.proofs.ListLemmas.{includes_back, includes_either, includes_front}
-use Rattle.lanelets.specs.Listing.{Lists, Gains, IsWith, HasRow, IsRowWith, AreColumns}
+use Rattle.lanelets.specs.Listing.{Gains, IsWith, HasRow, IsRowWith, AreColumns}
 use Rattle.lanelets.proofs.NumberLists.{gains_same, gains_more, gains_as, lists_as, lists_none, lists_next}
 use Rattle.lanelets.proofs.Places.{all_at, place_below, get_set_same, get_set_other}
 

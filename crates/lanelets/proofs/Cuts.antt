@@ -1,11 +1,13 @@
 -- Sizes of sides, and the coordinates of cuts as the code computes them.
-use Rattle.std.proofs.Common.{◌≡◌, ℕ, ◌+◌, ◌*◌, ◌<◌, ◌≤◌, ◌∙◌, ap, arith, to_z, of_z, w64, FitsSigned, nat_abs, mul-le-mul}
+use Rattle.std.proofs.Common.{◌≡◌, ℕ, ◌+◌, ◌-◌, ◌*◌, ◌<◌, ◌≤◌, ◌∙◌, [], ◌∷◌, ap, refl, arith, to_z, of_z, w64, FitsSigned, nat_abs, mul-le-mul}
 use Rattle.std.proofs.lemmas.Int.{ints}
 use Rattle.std.specs.Int.{w128}
 use lib.IntN.{ℤ, pos, ◌+ℤ◌, ◌-ℤ◌, ◌*ℤ◌}
 use lib.Signed.{◌≤ℤ◌}
 use Rattle.spot_terms.specs.Whole.{Within, quotient_floor}
+use Rattle.spot_terms.proofs.Mixes.{not_below_times}
 use Rattle.spot_terms.proofs.QuotientBounds.{floor_between}
+use Rattle.spot_terms.proofs.Ring.{ring, var, num, ◌⊕◌, ◌⊖◌, ◌⊗◌}
 use Rattle.convex_poly.proofs.Wide.{product_within}
 
 -- ---- sides
@@ -64,5 +66,36 @@ sum_fits_narrow f q a h k e = omega (arith, ints, e)
 pub sum_is : (f q a : ℤ) → nat_abs a ≤ 10000000000000 → nat_abs q ≤ 20000000000000 → f ≡ to_z w64 (of_z w64 a) → to_z w64 (of_z w64 (to_z w128 (of_z w128 (to_z w128 (of_z w128 f) +ℤ to_z w128 (of_z w128 q))))) ≡ a +ℤ q
 sum_is f q a h k e = omega (arith, ints, e)
 
-pub sum_small : (s a q : ℤ) → nat_abs a ≤ 10000000000000 → nat_abs q ≤ 20000000000000 → s ≡ a +ℤ q → nat_abs s ≤ 40000000000000
-sum_small s a q h k e = omega (arith, ints, e)
+-- a part of a way is at most as far as the whole of one that is no shorter
+part_at_most : (m w t u : ℤ) → pos 0 ≤ℤ m → w ≤ℤ m → pos 0 ≤ℤ t → pos 0 ≤ℤ u → (w *ℤ t) ≤ℤ (m *ℤ (t +ℤ u))
+part_at_most m w t u h k ht hu =
+    let a : pos 0 ≤ℤ ((m -ℤ w) *ℤ t) = not_below_times (m -ℤ w) t (omega (arith, ints)) ht in
+    let b : pos 0 ≤ℤ (m *ℤ u) = not_below_times m u h hu in
+    let e : m *ℤ (t +ℤ u) ≡ ((w *ℤ t) +ℤ ((m -ℤ w) *ℤ t)) +ℤ (m *ℤ u) = ring (m ∷ w ∷ t ∷ u ∷ []) (var 0 ⊗ (var 2 ⊕ var 3)) (((var 1 ⊗ var 2) ⊕ ((var 0 ⊖ var 1) ⊗ var 2)) ⊕ (var 0 ⊗ var 3)) refl in
+    rw e (below (w *ℤ t) ((m -ℤ w) *ℤ t) (m *ℤ u) a b)
+  where
+    below : (z x y : ℤ) → pos 0 ≤ℤ x → pos 0 ≤ℤ y → z ≤ℤ ((z +ℤ x) +ℤ y)
+    below z x y h k = omega (arith, ints)
+
+-- and at least as far
+part_at_least : (m w t u : ℤ) → m ≤ℤ pos 0 → m ≤ℤ w → pos 0 ≤ℤ t → pos 0 ≤ℤ u → (m *ℤ (t +ℤ u)) ≤ℤ (w *ℤ t)
+part_at_least m w t u h k ht hu =
+    let a : pos 0 ≤ℤ ((w -ℤ m) *ℤ t) = not_below_times (w -ℤ m) t (omega (arith, ints)) ht in
+    let b : pos 0 ≤ℤ ((pos 0 -ℤ m) *ℤ u) = not_below_times (pos 0 -ℤ m) u (omega (arith, ints)) hu in
+    let e : w *ℤ t ≡ ((m *ℤ (t +ℤ u)) +ℤ ((w -ℤ m) *ℤ t)) +ℤ ((pos 0 -ℤ m) *ℤ u) = ring (m ∷ w ∷ t ∷ u ∷ []) (var 1 ⊗ var 2) (((var 0 ⊗ (var 2 ⊕ var 3)) ⊕ ((var 1 ⊖ var 0) ⊗ var 2)) ⊕ ((num (pos 0) ⊖ var 0) ⊗ var 3)) refl in
+    rw e (below (m *ℤ (t +ℤ u)) ((w -ℤ m) *ℤ t) ((pos 0 -ℤ m) *ℤ u) a b)
+  where
+    below : (z x y : ℤ) → pos 0 ≤ℤ x → pos 0 ≤ℤ y → z ≤ℤ ((z +ℤ x) +ℤ y)
+    below z x y h k = omega (arith, ints)
+
+-- the coordinate of a cut lies between those of the ends, so that it is no greater than they may be
+pub cut_small : (s a b : ℤ) (t n : ℕ) → 0 < n → t ≤ n → nat_abs a ≤ 10000000000000 → nat_abs b ≤ 10000000000000 → s ≡ a +ℤ quotient_floor ((b -ℤ a) *ℤ pos t) (pos n) → nat_abs s ≤ 10000000000000
+cut_small s a b t n some l h k e =
+    let low : ℤ = (pos 0 -ℤ pos 10000000000000) -ℤ a in
+    let high : ℤ = pos 10000000000000 -ℤ a in
+    let whole : pos t +ℤ pos (n - t) ≡ pos n = omega (arith, ints, l) in
+    let most : ((b -ℤ a) *ℤ pos t) ≤ℤ (high *ℤ pos n) = rw whole at (part_at_most high (b -ℤ a) (pos t) (pos (n - t)) (omega (arith, ints, h)) (omega (arith, ints, k)) (omega (arith, ints)) (omega (arith, ints))) in
+    let least : (low *ℤ pos n) ≤ℤ ((b -ℤ a) *ℤ pos t) = rw whole at (part_at_least low (b -ℤ a) (pos t) (pos (n - t)) (omega (arith, ints, h)) (omega (arith, ints, k)) (omega (arith, ints)) (omega (arith, ints))) in
+    let between : Within low high (quotient_floor ((b -ℤ a) *ℤ pos t) (pos n)) = floor_between ((b -ℤ a) *ℤ pos t) (pos n) low high (omega (arith, ints, some)) least most in
+    let from = between.low in let to = between.high in
+    omega (arith, ints, from, to, e)

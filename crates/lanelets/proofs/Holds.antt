@@ -5,14 +5,14 @@ use lib.IntN.{ℤ, pos, negsuc}
 use lib.Signed.{◌≤ℤ◌}
 use Rattle.spot_terms.specs.Cells.{Lane, cells, corners_of}
 use Rattle.spot_terms.specs.Hull.{InHull, whole_pt}
-use Rattle.spot_terms.specs.Lists.{Pairwise}
+use Rattle.spot_terms.specs.Lists.{Pairwise, Lists}
 use Rattle.spot_terms.specs.declared.plain.Pt.{Pt}
 use Rattle.spot_terms.proofs.Hulls.{hull_x_at_most, hull_x_at_least, hull_y_at_most, hull_y_at_least, hull_to_points, hull_to_corners}
 use Rattle.convex_poly.specs.Polygons.{IsPolygon, IsPosition}
 use Rattle.convex_poly.proofs.Places.{all_map}
 use Rattle.lanelets.specs.declared.cell.Placed.{Placed}
-use Rattle.lanelets.specs.Holding.{HoldsAt, IsHolding}
-use Rattle.lanelets.specs.Listing.{Lists}
+use Rattle.lanelets.specs.Holding.{HoldsAt}
+use Rattle.spot_terms.specs.Routes.{IsStartCell}
 use Rattle.lanelets.specs.Made.{IsPlaced}
 use Rattle.lanelets.proofs.NumberLists.{lists_as}
 use Rattle.lanelets.proofs.Places.{item_at, partner_at, place_below, same_lengths}
@@ -47,8 +47,8 @@ pub holding_all : (made : List Placed) (p : Pt) (n : ℕ) (xs : List ℕ) → le
 holding_all made p n xs h = lists_as (λ k. (k < n) × HoldsAt made p k) (HoldsAt made p) xs (λ k q. q.1) (λ k q. (let low = place_below made k q.0 q.1 in omega (arith, low, h), q))
 
 -- the cells that are kept hold a point where those that are defined do
-pub holding_is : (lanes : List Lane) (made : List Placed) (p : Pt) (xs : List ℕ) → Pairwise (IsPlaced lanes) (cells lanes) made → Lists (HoldsAt made p) xs → Lists (IsHolding lanes p) xs
-holding_is lanes made p xs b = lists_as (HoldsAt made p) (IsHolding lanes p) xs
+pub holding_is : (lanes : List Lane) (made : List Placed) (p : Pt) (xs : List ℕ) → Pairwise (IsPlaced lanes) (cells lanes) made → Lists (HoldsAt made p) xs → Lists (IsStartCell lanes p) xs
+holding_is lanes made p xs b = lists_as (HoldsAt made p) (IsStartCell lanes p) xs
     (λ k q. let low = place_below made k q.0 q.1 in let many = same_lengths (IsPlaced lanes) (cells lanes) made b in
     let (n, at) = item_at (cells lanes) k (omega (arith, low, many)) in
     let r : IsPlaced lanes n q.0 = partner_at (IsPlaced lanes) (cells lanes) made k n q.0 b at q.1 in

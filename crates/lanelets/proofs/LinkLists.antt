@@ -1,5 +1,5 @@
 -- Positions of lanelets by their ids, and which follow which.
-use Rattle.std.proofs.Common.{◌≡◌, ◌∙◌, ◌⊎◌, inl, inr, ℕ, ◌<◌, Bool, true, false, ◌==◌, List, [], ◌∷◌, ◌++◌, length, get_or, sym, ap, subst, arith, nat_eq}
+use Rattle.std.proofs.Common.{◌≡◌, ◌∙◌, ◌⊎◌, inl, inr, ℕ, ◌<◌, Bool, true, false, ◌==◌, ◌||◌, List, [], ◌∷◌, ◌++◌, length, get_or, sym, ap, subst, arith, nat_eq}
 use Rattle.std.proofs.lemmas.Bool.{cases_lt, cases_eq, eqb-true, eq-eqb}
 use Rattle.std.proofs.lemmas.Cmp.{nat_eq_equiv}
 use Rattle.std.proofs.lemmas.List.{length-map}
@@ -111,43 +111,61 @@ places_skip lanes ids places id a h = record {
 
 -- ---- rows
 
+-- the rows that hold the places of the ids that P lists
+abbrev pub ArePlacesOf : (Lane → List ℕ) → List Lane → Lane → List ℕ → Type 0
+ArePlacesOf P every l row = ArePlaces every (P l) row
+
+pub places_within : (P : Lane → List ℕ) (every lanes : List Lane) (rows : List (List ℕ)) → Pairwise (ArePlacesOf P every) lanes rows → AllByRecursion (AreBelow (length every)) rows
+places_within P every [] [] p = tt
+places_within P every [] (row ∷ rows) p = absurd p
+places_within P every (l ∷ lanes) [] p = absurd p
+places_within P every (l ∷ lanes) (row ∷ rows) p = (p.0.within, places_within P every lanes rows p.1)
+
 pub successors_within : (every lanes : List Lane) (rows : List (List ℕ)) → Pairwise (λ (l : Lane) row. ArePlaces every l.1.successors row) lanes rows → AllByRecursion (AreBelow (length every)) rows
-successors_within every [] [] p = tt
-successors_within every [] (row ∷ rows) p = absurd p
-successors_within every (l ∷ lanes) [] p = absurd p
-successors_within every (l ∷ lanes) (row ∷ rows) p = (p.0.within, successors_within every lanes rows p.1)
+successors_within every lanes rows p = places_within (λ l. l.1.successors) every lanes rows p
+
+-- P lists the lanelet at f for that at e, or Q that at e for that at f
+abbrev pub AreNamed : (Lane → List ℕ) → (Lane → List ℕ) → List Lane → ℕ → ℕ → Type 0
+AreNamed P Q lanes e f = (l m : Lane) × (slice_get lanes e ≡ Some l) × (slice_get lanes f ≡ Some m) × ((list_any (λ i. i == m.0) (P l) || list_any (λ i. i == l.0) (Q m)) ≡ true)
+
+-- those that Q lists for a lanelet, and those for which P lists it
+pub named_row : (P Q : Lane → List ℕ) (lanes : List Lane) (rows columns : List (List ℕ)) (f : ℕ) (m : Lane) (before listing : List ℕ)
+    → slice_get lanes f ≡ Some m → Pairwise (ArePlacesOf P lanes) lanes rows → AreColumns rows (length lanes) columns → ArePlaces lanes (Q m) before → slice_get columns f ≡ Some listing
+    → (e : ℕ) → (Includes (before ++ listing) e ↔ AreNamed P Q lanes e f)
+named_row P Q lanes rows columns f m before listing at all turned places here e = (to, from)
+  where
+    many : length rows ≡ length lanes
+    many = same_lengths (ArePlacesOf P lanes) lanes rows all
+
+    to : Includes (before ++ listing) e → AreNamed P Q lanes e f
+    to i = elim (includes_either before listing e i) [
+      | inl j ↦ (let (l, h) = item_at lanes e (all_included (λ x. x < length lanes) before e places.within j) in
+          (l, m, h, at, or_second (list_any (λ i. i == m.0) (P l)) (list_any (λ i. i == l.0) (Q m)) ((places.each e l h).0 j)))
+      | inr j ↦ (let (row, was, k) = (turned.each f listing here).each e j in
+          let low : e < length rows = place_below rows e row was in
+          let (l, h) = item_at lanes e (omega (arith, low, many)) in
+          let p : ArePlaces lanes (P l) row = partner_at (ArePlacesOf P lanes) lanes rows e l row all h was in
+          (l, m, h, at, or_first (list_any (λ i. i == m.0) (P l)) (list_any (λ i. i == l.0) (Q m)) ((p.each f m at).0 k)))
+    ]
+
+    from : AreNamed P Q lanes e f → Includes (before ++ listing) e
+    from (l, n, h, g, t) =
+        let same : n ≡ m = same_at lanes f n m g at in
+        let t' : (list_any (λ i. i == m.0) (P l) || list_any (λ i. i == l.0) (Q m)) ≡ true = subst (λ (k : Lane). (list_any (λ i. i == k.0) (P l) || list_any (λ i. i == l.0) (Q k)) ≡ true) same t in
+        elim (either (list_any (λ i. i == m.0) (P l)) (list_any (λ i. i == l.0) (Q m)) t') [
+          | inl k ↦ (let low : e < length lanes = place_below lanes e l h in
+              let (row, was) = item_at rows e (omega (arith, low, many)) in
+              let p : ArePlaces lanes (P l) row = partner_at (ArePlacesOf P lanes) lanes rows e l row all h was in
+              includes_back before listing e ((turned.each f listing here).all e (row, was, (p.each f m at).1 k)))
+          | inr k ↦ includes_front before listing e ((places.each e l h).1 k)
+        ]
 
 -- the predecessors of a lanelet, and those that list it
 pub source_row : (lanes : List Lane) (successors columns : List (List ℕ)) (f : ℕ) (m : Lane) (before listing : List ℕ)
     → slice_get lanes f ≡ Some m → AreSuccessors lanes successors → AreColumns successors (length lanes) columns → ArePlaces lanes m.1.predecessors before → slice_get columns f ≡ Some listing
     → (e : ℕ) → (Includes (before ++ listing) e ↔ IsFollowed lanes e f)
-source_row lanes successors columns f m before listing at rows turned places here e = (to, from)
-  where
-    many : length successors ≡ length lanes
-    many = same_lengths (λ (l : Lane) row. ArePlaces lanes l.1.successors row) lanes successors rows
-
-    to : Includes (before ++ listing) e → IsFollowed lanes e f
-    to i = elim (includes_either before listing e i) [
-      | inl j ↦ (let (l, h) = item_at lanes e (all_included (λ x. x < length lanes) before e places.within j) in
-          (l, m, h, at, or_second (list_any (λ i. i == m.0) l.1.successors) (list_any (λ i. i == l.0) m.1.predecessors) ((places.each e l h).0 j)))
-      | inr j ↦ (let (row, was, k) = (turned.each f listing here).each e j in
-          let low : e < length successors = place_below successors e row was in
-          let (l, h) = item_at lanes e (omega (arith, low, many)) in
-          let p : ArePlaces lanes l.1.successors row = partner_at (λ (l : Lane) row. ArePlaces lanes l.1.successors row) lanes successors e l row rows h was in
-          (l, m, h, at, or_first (list_any (λ i. i == m.0) l.1.successors) (list_any (λ i. i == l.0) m.1.predecessors) ((p.each f m at).0 k)))
-    ]
-
-    from : IsFollowed lanes e f → Includes (before ++ listing) e
-    from (l, n, h, g, t) =
-        let same : n ≡ m = same_at lanes f n m g at in
-        let t' : follows m l ≡ true = subst (λ (k : Lane). follows k l ≡ true) same t in
-        elim (either (list_any (λ i. i == m.0) l.1.successors) (list_any (λ i. i == l.0) m.1.predecessors) t') [
-          | inl k ↦ (let low : e < length lanes = place_below lanes e l h in
-              let (row, was) = item_at successors e (omega (arith, low, many)) in
-              let p : ArePlaces lanes l.1.successors row = partner_at (λ (l : Lane) row. ArePlaces lanes l.1.successors row) lanes successors e l row rows h was in
-              includes_back before listing e ((turned.each f listing here).all e (row, was, (p.each f m at).1 k)))
-          | inr k ↦ includes_front before listing e ((places.each e l h).1 k)
-        ]
+source_row lanes successors columns f m before listing at rows turned places here e =
+    named_row (λ l. l.1.successors) (λ l. l.1.predecessors) lanes successors columns f m before listing at rows turned places here e
 
 -- the positions that follow and are followed are those of lanelets
 pub followed_low : (lanes : List Lane) (e f : ℕ) → IsFollowed lanes e f → e < length lanes

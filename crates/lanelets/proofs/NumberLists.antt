@@ -3,9 +3,9 @@ use Rattle.std.proofs.Common.{◌≡◌, ◌⊎◌, inl, inr, ℕ, zero, suc, �
 use Rattle.std.proofs.lemmas.Bool.{cases_eq}
 use Rattle.std.specs.Prelude.{Some, slice_get}
 use Rattle.std.specs.List.{AllByRecursion}
-use Rattle.spot_terms.specs.Lists.{Includes}
+use Rattle.spot_terms.specs.Lists.{Includes, Rises, Lists}
 use Rattle.spot_terms.proofs.ListLemmas.{all_included, all_of, includes_back, includes_either, includes_front}
-use Rattle.lanelets.specs.Listing.{Rises, Lists, Gains, IsWith}
+use Rattle.lanelets.specs.Listing.{Gains, IsWith}
 
 -- ---- rising
 

@@ -1,6 +1,9 @@
 -- Which cells lie side by side, by what is kept of their lanelets.
-use Rattle.std.proofs.Common.{◌≡◌, ◌∙◌, ℕ, List, length, sym, ap, subst, arith}
-use Rattle.std.specs.Prelude.{◌↔◌, Some, slice_get}
+use Rattle.std.proofs.Common.{◌≡◌, ◌∙◌, ℕ, ◌<◌, List, length, sym, ap, subst, arith, nat_eq}
+use Rattle.std.proofs.lemmas.Bool.{eqb-true, eq-eqb}
+use Rattle.std.proofs.lemmas.Option.{slice_get-get_or}
+use Rattle.std.specs.Bool.{IsTrue}
+use Rattle.std.specs.Prelude.{◌↔◌, Some, slice_get, slice_index_or}
 use Rattle.spot_terms.specs.Cells.{Lane, NetCell}
 use Rattle.spot_terms.specs.Lists.{Pairwise}
 use Rattle.spot_terms.specs.Network.{IsSide, Overlaps, lane_of}
@@ -51,4 +54,14 @@ side_is T every kept net c d e f a b x y p oa ob la lb hx hy test =
           let over : length s.l.1.left ≡ length s.m.1.left → Overlaps a b = λ same. subst (λ (o : Origin). Overlaps o b) ia (subst (Overlaps s.a.origin) ib (s.beside same)) in
           let here : AreBeside s.l s.m a b = record { neighbours = s.neighbours; beside = over } in
           t.1 (subst (λ (k : Lane). AreBeside k m a b) same_l (subst (λ (k : Lane). AreBeside s.l k a b) same_m here))),
+    )
+
+-- equal numbers of points, by what is kept
+pub points_equal : (every : List Lane) (kept : List KeptLane) (e f : ℕ) (x y : KeptLane) → e < length kept → f < length kept → Pairwise IsKept every kept → (l m : Lane) → slice_get every e ≡ Some l → slice_get every f ≡ Some m
+    → (IsTrue (nat_eq (slice_index_or kept e x).points (slice_index_or kept f y).points) ↔ (length l.1.left ≡ length m.1.left))
+points_equal every kept e f x y low_e low_f p l m hl hm =
+    let first : IsKept l (slice_index_or kept e x) = partner_at IsKept every kept e l (slice_index_or kept e x) p hl (slice_get-get_or kept e x low_e) in
+    let second : IsKept m (slice_index_or kept f y) = partner_at IsKept every kept f m (slice_index_or kept f y) p hm (slice_get-get_or kept f y low_f) in (
+      (λ t. sym first.points ∙ eqb-true (slice_index_or kept e x).points (slice_index_or kept f y).points t ∙ second.points),
+      (λ same. eq-eqb (slice_index_or kept e x).points (slice_index_or kept f y).points (first.points ∙ same ∙ sym second.points)),
     )

@@ -57,8 +57,14 @@ ends_inside n cells all c e h = let (p, g, o) = net_item cells c h.0 h.1 in part
 pub leads_inside : (n : ℕ) (cells : List Placed) → AllByRecursion (λ (p : Placed). IsInside n p.origin) cells → (c f : ℕ) → LeadsTo (net_of cells) c f → f < n
 leads_inside n cells all c f h = let (p, g, o) = net_item cells c h.1 h.2 in bridge_inside n h.0 f p.origin (sym o ∙ h.3) (all_at (λ (p : Placed). IsInside n p.origin) cells c p all g)
 
+pub lanes_inside : (n : ℕ) (cells : List Placed) → AllByRecursion (λ (p : Placed). IsInside n p.origin) cells → (c e : ℕ) → IsOfLane (net_of cells) c e → e < n
+lanes_inside n cells all c e h = let (p, g, o) = net_item cells c h.0 h.1 in part_inside n e p.origin (ap lane_of (sym o) ∙ h.2) (all_at (λ (p : Placed). IsInside n p.origin) cells c p all g)
+
 pub origin_inside : (n : ℕ) (cells : List Placed) (c : ℕ) (o : Origin) → AllByRecursion (λ (p : Placed). IsInside n p.origin) cells → HasOrigin (net_of cells) c o → IsInside n o
 origin_inside n cells c o all h = let (p, g, e) = net_item cells c h.0 h.1 in subst (IsInside n) (sym e ∙ h.2) (all_at (λ (p : Placed). IsInside n p.origin) cells c p all g)
+
+pub lanes_low : (cells : List Placed) (c e : ℕ) → IsOfLane (net_of cells) c e → c < length cells
+lanes_low cells c e h = item_low cells c h.0 h.1
 
 pub ends_low : (cells : List Placed) (c e : ℕ) → EndsLane (net_of cells) c e → c < length cells
 ends_low cells c e h = item_low cells c h.0 h.1

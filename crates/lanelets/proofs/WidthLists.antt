@@ -5,7 +5,7 @@ use Rattle.std.proofs.lemmas.Option.{get_or_from_slice_get}
 use Rattle.std.specs.Prelude.{Some, slice_get}
 use Rattle.spot_terms.specs.Cells.{Pair, Lane}
 use Rattle.spot_terms.specs.declared.scenario.RawLane.{RawLane}
-use Rattle.lanelets.specs.Faults.{AreFarApart, IsTooWide, AreNarrowBelow}
+use Rattle.spot_terms.specs.Limits.{AreFarApart, IsTooWide, AreNarrowBelow}
 use Rattle.lanelets.proofs.Places.{place_below, same_at}
 
 -- the points at each place below k are near each other

@@ -6,19 +6,22 @@ use Rattle.spot_terms.specs.Lists.{Pairwise}
 use Rattle.spot_terms.specs.Network.{IsAhead}
 use Rattle.lanelets.specs.declared.cell.Cell.{Cell}
 use Rattle.lanelets.specs.declared.cell.Placed.{Placed}
+use Rattle.lanelets.specs.declared.classes.Classes.{Classes}
 use Rattle.lanelets.specs.declared.kept.KeptLane.{KeptLane}
+use Rattle.lanelets.specs.Beside.{AreClasses}
 use Rattle.lanelets.specs.Kept.{IsKept}
 use Rattle.lanelets.specs.Listing.{AreLists}
 use Rattle.lanelets.specs.Steps.{IsInside}
 use Rattle.lanelets.specs.Made.{IsCellOf, IsPlaced, source_of}
 
--- its cells, with those ahead of each, and its lanelets
-pub record IsBuilt (lanes : List Lane) (made : List Placed) (kept : List KeptLane) (next : List (List ℕ)) : Type 0 where
+-- its cells, with those ahead of each and their classes, and its lanelets
+pub record IsBuilt (lanes : List Lane) (made : List Placed) (kept : List KeptLane) (next : List (List ℕ)) (classes : Classes) : Type 0 where
   pub few : length (cells lanes) ≤ 100_000
   pub placed : Pairwise (IsPlaced lanes) (cells lanes) made
   pub inside : AllByRecursion (λ (p : Placed). IsInside (length lanes) p.origin) made
   pub kept_is : Pairwise IsKept lanes kept
   pub ahead : AreLists (IsAhead lanes (cells lanes)) (length (cells lanes)) next
+  pub beside : AreClasses lanes (cells lanes) classes
 
 -- the cell with this number, with the id of the lanelet that it is a part of or leads from
 pub record IsCellAt (lanes : List Lane) (c : ℕ) (cell : Cell) : Type 0 where

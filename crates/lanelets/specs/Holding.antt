@@ -1,6 +1,5 @@
 -- Which cells hold a point.
 use Rattle.std.specs.Prelude.{◌≡◌, ℕ, List, Some, slice_get}
-use Rattle.spot_terms.specs.Cells.{Lane, NetCell, cells, corners_of}
 use Rattle.spot_terms.specs.Hull.{InHull}
 use Rattle.spot_terms.specs.declared.plain.Pt.{Pt}
 use Rattle.lanelets.specs.declared.cell.Placed.{Placed}
@@ -8,7 +7,3 @@ use Rattle.lanelets.specs.declared.cell.Placed.{Placed}
 -- the polygon of cell c holds p
 abbrev pub HoldsAt : List Placed → Pt → ℕ → Type 0
 HoldsAt made p c = (x : Placed) × (slice_get made c ≡ Some x) × InHull x.cell.poly p
-
--- the hull of the corners of cell c holds p
-abbrev pub IsHolding : List Lane → Pt → ℕ → Type 0
-IsHolding lanes p c = (n : NetCell) × (slice_get (cells lanes) c ≡ Some n) × InHull (corners_of n) p

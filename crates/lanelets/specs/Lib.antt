@@ -1,13 +1,15 @@
 -- The definitions, one module a concept.
 pub mod Answers
+pub mod Beside
 pub mod Bridges
 pub mod Buildable
 pub mod Built
-pub mod Faults
 pub mod Holding
 pub mod Kept
+pub mod Levels
 pub mod Links
 pub mod Listing
 pub mod Made
+pub mod Nearby
 pub mod Pieces
 pub mod Steps

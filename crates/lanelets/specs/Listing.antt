@@ -1,18 +1,7 @@
--- Lists of numbers: what they list, and rows turned round.
+-- Lists of numbers that grow, and rows turned round.
 use Rattle.std.specs.Prelude.{◌≡◌, ◌⊎◌, ◌↔◌, ℕ, ◌<◌, ◌≤◌, List, [], ◌∷◌, Some, slice_get, length}
 use Rattle.std.specs.List.{AllByRecursion}
-use Rattle.spot_terms.specs.Lists.{Includes}
-
--- each number is below all later ones
-abbrev pub Rises : List ℕ → Type 0
-Rises [] = Unit {0}
-Rises (x ∷ xs) = AllByRecursion (λ y. x < y) xs × Rises xs
-
--- exactly the numbers of which P holds, each once, by number
-pub record Lists (P : ℕ → Type 0) (xs : List ℕ) : Type 0 where
-  pub rises : Rises xs
-  pub each : (x : ℕ) → Includes xs x → P x
-  pub all : (x : ℕ) → P x → Includes xs x
+use Rattle.spot_terms.specs.Lists.{Includes, Lists, Rises}
 
 abbrev pub AreBelow : ℕ → List ℕ → Type 0
 AreBelow n xs = AllByRecursion (λ x. x < n) xs

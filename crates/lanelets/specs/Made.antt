@@ -1,5 +1,6 @@
 -- Cells as the code keeps them, beside those that are defined.
 use Rattle.std.specs.Prelude.{◌≡◌, ℕ, List, ◌++◌, Some, slice_get}
+use Rattle.std.specs.List.{AllByRecursion}
 use Rattle.spot_terms.specs.Cells.{Lane, NetCell, corners_of}
 use Rattle.spot_terms.specs.Hull.{IsHullOf}
 use Rattle.spot_terms.specs.Lists.{Pairwise}
@@ -7,13 +8,15 @@ use Rattle.spot_terms.specs.declared.network.Origin.{Origin}
 use Rattle.spot_terms.specs.declared.network.Origin.TheVariants.{Part, Bridge}
 use Rattle.lanelets.specs.declared.cell.Cell.{Cell}
 use Rattle.lanelets.specs.declared.cell.Placed.{Placed}
+use Rattle.lanelets.specs.Pieces.{IsNear}
 
--- a cell with this lanelet's id, its portals, and their hull
+-- a cell with this lanelet's id, its portals, and their hull, whose corners are at most 10^13 in size
 pub record IsCellOf (id : ℕ) (n : NetCell) (c : Cell) : Type 0 where
   pub lane : c.lane ≡ id
   pub entry : c.entry ≡ n.entry
   pub exit : c.exit ≡ n.exit
   pub poly : IsHullOf (corners_of n) c.poly
+  pub near : AllByRecursion IsNear c.poly
 
 -- the cell, with where it comes from
 pub record IsMadeOf (id : ℕ) (n : NetCell) (p : Placed) : Type 0 where

@@ -2,9 +2,9 @@
 use Rattle.std.specs.Prelude.{◌≡◌, ℕ, ◌+◌, List, [], ◌∷◌, Some, slice_get}
 use Rattle.spot_terms.specs.Cells.{Portal}
 use Rattle.spot_terms.specs.Ranges.{IsPairInRange}
+use Rattle.spot_terms.specs.Whole.{SizeAtMost}
 use Rattle.spot_terms.specs.declared.plain.Pt.{Pt}
 use Rattle.spot_terms.specs.declared.scenario.RawLane.{RawLane}
-use Rattle.convex_poly.specs.Polygons.{IsPosition}
 use Rattle.lanelets.specs.declared.piece.Piece.{Piece}
 
 -- its points are at most 10^13 in size
@@ -21,10 +21,15 @@ pub record IsPieceAt (l : RawLane) (q : ℕ) (p : Piece) : Type 0 where
   pub right : slice_get l.right q ≡ Some p.right
   pub right_end : slice_get l.right (q + 1) ≡ Some p.right_end
 
--- both points are at most 4·10^13 in size
-pub record ArePositions (p : Portal) : Type 0 where
-  pub left : IsPosition p.0
-  pub right : IsPosition p.1
+-- both coordinates are at most 10^13 in size
+pub record IsNear (p : Pt) : Type 0 where
+  pub x : SizeAtMost 10_000_000_000_000 p.x
+  pub y : SizeAtMost 10_000_000_000_000 p.y
+
+-- of both points
+pub record AreNear (p : Portal) : Type 0 where
+  pub left : IsNear p.0
+  pub right : IsNear p.1
 
 -- the points of two portals
 abbrev pub corners_between : Portal → Portal → List Pt

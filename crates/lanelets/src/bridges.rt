@@ -5,9 +5,9 @@ ghost use Rattle.spot_terms.specs.Cells.{bridges_from};
 ghost use Rattle.lanelets.specs.Bridges.{IsBridge, bridges_of};
 ghost use Rattle.lanelets.specs.Buildable.{AreBuildable};
 ghost use Rattle.lanelets.specs.Links.{IsFollowed, AreLinks};
-ghost use Rattle.lanelets.specs.Listing.{Lists};
+ghost use Rattle.spot_terms.specs.Lists.{Lists};
 ghost use Rattle.lanelets.specs.Made.{Adds, IsPlaced};
-ghost use Rattle.lanelets.specs.Pieces.{ArePositions};
+ghost use Rattle.lanelets.specs.Pieces.{AreNear};
 
 use crate::cell::{Cell, Placed};
 use crate::lanes::{lane_at, lane_count};
@@ -29,8 +29,8 @@ struct Ends {
 
 // The bridge between two portals.
 fn bridge_between(ends: Ends, entry: (Pt, Pt), exit: (Pt, Pt)) -> Placed
-    requires entry_in { ArePositions entry }
-    requires exit_in { ArePositions exit }
+    requires entry_in { AreNear entry }
+    requires exit_in { AreNear exit }
     ensures { IsBridge ends.from ends.id ends.to entry exit result }
 {
     let origin = Origin::Bridge {

@@ -4,18 +4,21 @@ ghost use Rattle.std.specs.Prelude.{◌≡◌, ◌≤◌, length, IfOk, IfErr};
 ghost use Rattle.spot_terms.specs.Cells.{cells};
 ghost use Rattle.spot_terms.specs.Lists.{Pairwise};
 ghost use Rattle.lanelets.specs.Buildable.{AreBuildable};
-ghost use Rattle.lanelets.specs.Answers.{HasNetwork, IsNetFault};
+ghost use Rattle.lanelets.specs.Answers.{IsNetFault};
+ghost use Rattle.spot_terms.specs.Limits.{HasNetwork};
 ghost use Rattle.lanelets.specs.Links.{AreLinks};
 ghost use Rattle.lanelets.specs.Made.{IsPlaced};
 
 use crate::ahead::ahead_of;
 use crate::bridges::add_bridges;
 use crate::cell::Placed;
+use crate::classes::classes_of;
 use crate::counts::cell_count;
 use crate::fault::NetFault;
 use crate::kept::kept_lanes;
 use crate::links::{Links, links_of};
 use crate::making::add_lanes;
+use crate::nearby::nearby_of;
 use crate::network::Network;
 use crate::widths::first_wide;
 use indexmap::IndexMap;
@@ -55,7 +58,9 @@ fn network_of(
     let cells = cells_of(alloc, lanes, links)?;
     let kept = kept_lanes(alloc, lanes)?;
     let ahead = ahead_of(alloc, lanes, links, &cells)?;
-    Ok(Network::of(lanes, cells, kept, ahead))
+    let nearby = nearby_of(alloc, lanes, &cells)?;
+    let classes = classes_of(alloc, &cells, &kept, &nearby)?;
+    Ok(Network::of(lanes, cells, kept, ahead, classes))
 }
 
 /// The network of lanelets, which are kept by their ids in document order.

@@ -1,6 +1,6 @@
 //! What a network keeps of lanelets, and which cells lie side by side.
 
-ghost use Rattle.std.specs.Prelude.{◌≡◌, ◌↔◌, ◌<◌, List, length, IsTrue, IfOk};
+ghost use Rattle.std.specs.Prelude.{◌≡◌, ◌↔◌, ◌<◌, List, length, slice_get, Some, IsTrue, IfOk};
 ghost use Rattle.std.specs.List.{AllByRecursion};
 ghost use Rattle.spot_terms.specs.Cells.{Lane};
 ghost use Rattle.spot_terms.specs.Lists.{Pairwise};
@@ -95,8 +95,17 @@ fn are_beside(l: &KeptLane, m: &KeptLane, a: Origin, b: Origin) -> bool
     are_neighbours(l, m) && (l.points != m.points || do_overlap(a, b))
 }
 
-// The position of the lanelet that a cell is a part of.
-fn lane_of(origin: Origin) -> Option<u32>
+/// Whether the bounds of the lanelets at these positions have equal numbers of points.
+pub(crate) fn have_as_many_points(lanes: &[KeptLane], e: u32, f: u32) -> bool
+    requires first { e < length lanes.now }
+    requires second { f < length lanes.now }
+    ensures { (every : List Lane) → Pairwise IsKept every lanes.now → (l m : Lane) → slice_get every e ≡ Some l → slice_get every f ≡ Some m → (IsTrue result ↔ (length l.1.left ≡ length m.1.left)) }
+{
+    lanes[e as usize].points == lanes[f as usize].points
+}
+
+/// The position of the lanelet that a cell that comes from there is a part of.
+pub(crate) fn lane_of(origin: Origin) -> Option<u32>
     ensures { result ≡ lane_of_origin origin }
 {
     match origin {

@@ -31,8 +31,8 @@ fn place_of(lanes: &IndexMap<u32, RawLane>, id: u32) -> Option<u32>
     }
 }
 
-// The positions of the lanelets with these ids, without those that aren't there.
-fn places_of(
+/// The positions of the lanelets with these ids, without those that aren't there.
+pub(crate) fn places_of(
     alloc: Global,
     lanes: &IndexMap<u32, RawLane>,
     ids: &[u32],

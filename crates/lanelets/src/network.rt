@@ -3,6 +3,7 @@
 ghost use Rattle.spot_terms.specs.Cells.{cells};
 
 use crate::cell::{Cell, Placed};
+use crate::classes::Classes;
 use crate::kept::{KeptLane, are_side_cells};
 use crate::numbers::{Numbers, has_number, list_at};
 use crate::search::{CellList, cells_holding};
@@ -19,6 +20,7 @@ pub struct Network {
     cells: Vec<Placed>,
     lanes: Vec<KeptLane>,
     ahead: Vec<Numbers>,
+    classes: Classes,
 }
 
 impl Model for Network {
@@ -30,24 +32,27 @@ impl Model for Network {
 
     ghost view = { λ n. n.built_from.value.entries };
 
-    ghost invariant = { λ n. IsBuilt n.built_from.value.entries n.cells.items n.lanes.items n.ahead.items };
+    ghost invariant = { λ n. IsBuilt n.built_from.value.entries n.cells.items n.lanes.items n.ahead.items n.classes };
 }
 
 impl Network {
     ghost use Rattle.std.specs.Prelude.{◌≡◌, ◌↔◌, ◌<◌, ◌≤◌, length, IsTrue, IfOk};
     ghost use Rattle.spot_terms.specs.Network.{IsAhead, IsSide};
+    ghost use Rattle.lanelets.specs.Beside.{IsBeside};
     ghost use Rattle.lanelets.specs.Built.{IsBuilt, IsCellAt};
-    ghost use Rattle.lanelets.specs.Holding.{IsHolding};
-    ghost use Rattle.lanelets.specs.Listing.{Lists};
+    ghost use Rattle.spot_terms.specs.Routes.{IsStartCell};
+    ghost use Rattle.spot_terms.specs.Lists.{Lists};
 
-    // The network of lanelets with these cells, with what is kept of the lanelets, and the cells ahead of each.
+    // The network of lanelets with these cells, with what is kept of the lanelets, the cells ahead of each, and
+    // their classes.
     pub(crate) fn of(
         lanes: &IndexMap<u32, RawLane>,
         cells: Vec<Placed>,
         kept: Vec<KeptLane>,
         ahead: Vec<Numbers>,
+        classes: Classes,
     ) -> Network
-        requires { IsBuilt lanes.now.entries cells.items kept.items ahead.items }
+        requires { IsBuilt lanes.now.entries cells.items kept.items ahead.items classes }
         ensures { result ≡ lanes.now.entries }
     {
         Network {
@@ -55,6 +60,7 @@ impl Network {
             cells,
             lanes: kept,
             ahead,
+            classes,
         }
     }
 
@@ -99,9 +105,17 @@ impl Network {
         are_side_cells(&self.cells, &self.lanes, c, d)
     }
 
+    /// The numbers of the cells to which side moves alone lead from cell `c`, with `c` itself, in order.
+    pub fn beside(&self, c: u32) -> &[u32]
+        requires { c < length (cells self.now) }
+        ensures { Lists (λ d. IsBeside self.now (cells self.now) d c) result.now }
+    {
+        list_at(&self.classes.cells, self.classes.numbers[c as usize])
+    }
+
     /// The numbers of the cells whose hull holds the point, in order.
     pub fn cells_at(&self, alloc: Global, p: Pt) -> Result<CellList, AllocError>
-        ensures { IfOk result (λ list. Lists (IsHolding self.now p) list) }
+        ensures { IfOk result (λ list. Lists (IsStartCell self.now p) list) }
     {
         let list = cells_holding(alloc, &self.cells, p)?;
         Ok(list)

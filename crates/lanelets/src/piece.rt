@@ -1,12 +1,12 @@
 //! Pieces of lanelets, and how they are cut.
 
 ghost use Rattle.std.specs.Prelude.{◌≡◌, ◌<◌, ◌≤◌, pos, ◌+ℤ◌, ◌-ℤ◌, ◌*ℤ◌};
+ghost use Rattle.std.specs.List.{AllByRecursion};
 ghost use Rattle.spot_terms.specs.Whole.{SizeAtMost, quotient_floor};
 ghost use Rattle.spot_terms.specs.Cells.{side_square as side_square_of, part_count as part_count_of, cut};
 ghost use Rattle.spot_terms.specs.Hull.{IsHullOf};
 ghost use Rattle.spot_terms.specs.Ranges.{IsPairInRange};
-ghost use Rattle.convex_poly.specs.Polygons.{IsPosition};
-ghost use Rattle.lanelets.specs.Pieces.{IsPieceInRange, ArePositions, corners_between};
+ghost use Rattle.lanelets.specs.Pieces.{IsPieceInRange, IsNear, AreNear, corners_between};
 
 use convex_poly::{Poly, hull};
 use spot_num::{div_floor, isqrt_ceil};
@@ -57,7 +57,7 @@ fn cut_between(from: i64, to: i64, t: u32, parts: u32) -> i64
     requires some { 0 < parts }
     requires part { t ≤ parts }
     ensures value { result ≡ from +ℤ quotient_floor ((to -ℤ from) *ℤ pos t) (pos parts) }
-    ensures size { SizeAtMost 40_000_000_000_000 result }
+    ensures size { SizeAtMost 10_000_000_000_000 result }
 {
     let way = i128::from(to) - i128::from(from);
     let gone = div_floor(way * i128::from(t), i128::from(parts));
@@ -71,7 +71,7 @@ fn cut_at(from: (i64, i64), to: (i64, i64), t: u32, parts: u32) -> Pt
     requires some { 0 < parts }
     requires part { t ≤ parts }
     ensures value { result ≡ cut from to t parts }
-    ensures position { IsPosition result }
+    ensures near { IsNear result }
 {
     Pt {
         x: cut_between(from.0, to.0, t, parts),
@@ -85,7 +85,7 @@ pub(crate) fn portal(piece: &Piece, t: u32, parts: u32) -> (Pt, Pt)
     requires some { 0 < parts }
     requires part { t ≤ parts }
     ensures value { result ≡ (cut piece.now.left piece.now.left_end t parts, cut piece.now.right piece.now.right_end t parts) }
-    ensures positions { ArePositions result }
+    ensures near { AreNear result }
 {
     (
         cut_at(piece.left, piece.left_end, t, parts),
@@ -95,9 +95,10 @@ pub(crate) fn portal(piece: &Piece, t: u32, parts: u32) -> (Pt, Pt)
 
 /// The hull of two portals.
 pub(crate) fn hull_between(entry: (Pt, Pt), exit: (Pt, Pt)) -> Poly
-    requires entry_in { ArePositions entry }
-    requires exit_in { ArePositions exit }
-    ensures { IsHullOf (corners_between entry exit) result }
+    requires entry_in { AreNear entry }
+    requires exit_in { AreNear exit }
+    ensures hull { IsHullOf (corners_between entry exit) result }
+    ensures near { AllByRecursion IsNear result }
 {
     hull(&[entry.0, entry.1, exit.0, exit.1])
 }

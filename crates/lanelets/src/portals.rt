@@ -3,7 +3,7 @@
 ghost use Rattle.std.specs.Prelude.{◌≡◌, ◌<◌, ◌-◌, ℕ, length, Some};
 ghost use Rattle.spot_terms.specs.Cells.{pt_of, same_pt, same_portal, portal_at as portal_of, first_portal as first_of, last_portal as last_of};
 ghost use Rattle.spot_terms.specs.Ranges.{IsLaneInRange};
-ghost use Rattle.lanelets.specs.Pieces.{ArePositions};
+ghost use Rattle.lanelets.specs.Pieces.{AreNear};
 
 use spot_terms::{Pt, RawLane};
 
@@ -19,7 +19,7 @@ fn portal_at(lane: &RawLane, k: usize) -> (Pt, Pt)
     requires range { IsLaneInRange lane.now }
     requires within { k < length lane.now.left }
     ensures is { (id : ℕ) → portal_of (id, lane.now) k ≡ Some result }
-    ensures positions { ArePositions result }
+    ensures near { AreNear result }
 {
     let left = lane.left.list();
     let right = lane.right.list();
@@ -30,7 +30,7 @@ fn portal_at(lane: &RawLane, k: usize) -> (Pt, Pt)
 pub(crate) fn first_portal(lane: &RawLane) -> (Pt, Pt)
     requires { IsLaneInRange lane.now }
     ensures is { (id : ℕ) → first_of (id, lane.now) ≡ Some result }
-    ensures positions { ArePositions result }
+    ensures near { AreNear result }
 {
     portal_at(lane, 0)
 }
@@ -39,7 +39,7 @@ pub(crate) fn first_portal(lane: &RawLane) -> (Pt, Pt)
 pub(crate) fn last_portal(lane: &RawLane) -> (Pt, Pt)
     requires { IsLaneInRange lane.now }
     ensures is { (id : ℕ) → last_of (id, lane.now) ≡ Some result }
-    ensures positions { ArePositions result }
+    ensures near { AreNear result }
 {
     portal_at(lane, lane.left.list().len() - 1)
 }

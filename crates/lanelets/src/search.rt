@@ -3,7 +3,7 @@
 ghost use Rattle.std.specs.Prelude.{◌≡◌, ◌↔◌, ◌≤◌, length, IsTrue, IfOk};
 ghost use Rattle.spot_terms.specs.Hull.{InHull};
 ghost use Rattle.convex_poly.specs.Polygons.{IsPosition};
-ghost use Rattle.lanelets.specs.Listing.{Lists};
+ghost use Rattle.spot_terms.specs.Lists.{Lists};
 ghost use Rattle.lanelets.specs.Holding.{HoldsAt};
 
 use crate::cell::Placed;

@@ -3,7 +3,7 @@
 ghost use Rattle.std.specs.Prelude.{◌↔◌, IsTrue};
 ghost use Rattle.spot_terms.specs.Ranges.{IsLaneInRange, IsPairInRange};
 ghost use Rattle.lanelets.specs.Buildable.{AreBuildable};
-ghost use Rattle.lanelets.specs.Faults.{AreFarApart, IsTooWide, IsFirstWide};
+ghost use Rattle.spot_terms.specs.Limits.{AreFarApart, IsTooWide, IsFirstWide};
 
 use crate::lanes::{lane_at, lane_count};
 use indexmap::IndexMap;

@@ -1,6 +1,6 @@
 use Rattle.std.proofs.Common.{◌≡◌, ◌∙◌, ◌≤◌, ap, arith, ℤ, ◌+ℤ◌, ◌*ℤ◌, ◌-ℤ◌, pos, nat_abs}
 use Rattle.spot_terms.specs.Whole.{quotient_floor}
-use Rattle.lanelets.proofs.Cuts.{difference_small, gone_is, part_small, sum_fits, sum_fits_narrow, sum_is, sum_small}
+use Rattle.lanelets.proofs.Cuts.{difference_small, gone_is, part_small, sum_fits, sum_fits_narrow, sum_is, cut_small}
 use Rattle.lanelets.proofs.piece.cut_between.Goals as goal
 use Rattle.lanelets.proofs.piece.cut_between.Goals.{After-from-5}
 
@@ -23,4 +23,5 @@ returns-clause-value c = sum_is c.from-5.result c.div_floor-gone.result c.args.f
 
 pub returns-clause-size : goal.returns-clause-size
 returns-clause-size c =
-    sum_small _ c.args.from c.div_floor-gone.result c.requires.from_in (small c) (sum_is c.from-5.result c.div_floor-gone.result c.args.from c.requires.from_in (small c) c.from-5.ensures)
+    cut_small _ c.args.from c.args.to c.args.t c.args.parts c.requires.some c.requires.part c.requires.from_in c.requires.to_in
+    (sum_is c.from-5.result c.div_floor-gone.result c.args.from c.requires.from_in (small c) c.from-5.ensures ∙ ap (λ (z : ℤ). c.args.from +ℤ z) (gone c))

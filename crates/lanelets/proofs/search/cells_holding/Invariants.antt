@@ -1,5 +1,5 @@
 use Rattle.std.proofs.Common.{◌<◌}
-use Rattle.lanelets.specs.Listing.{Lists}
+use Rattle.spot_terms.specs.Lists.{Lists}
 use Rattle.lanelets.specs.Holding.{HoldsAt}
 use Rattle.lanelets.proofs.search.cells_holding.Given as goal
 

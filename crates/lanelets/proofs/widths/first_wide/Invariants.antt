@@ -1,4 +1,4 @@
-use Rattle.lanelets.specs.Faults.{AreNarrowBelow}
+use Rattle.spot_terms.specs.Limits.{AreNarrowBelow}
 use Rattle.lanelets.proofs.widths.first_wide.Given as goal
 
 abbrev pub invariant-loop-e : goal.invariant-loop-e

@@ -1,5 +1,5 @@
 use Rattle.std.proofs.Common.{◌≡◌, ◌≤◌, length, refl, ap, pos, get_or, arith}
-use Rattle.lanelets.specs.Faults.{AreFarApart}
+use Rattle.spot_terms.specs.Limits.{AreFarApart}
 use Rattle.lanelets.proofs.WidthLists.{near_next, near_all}
 use Rattle.lanelets.proofs.widths.is_too_wide.Goals as goal
 

@@ -1,7 +1,8 @@
 use Rattle.std.proofs.Common.{List, length, ap, subst, arith}
 use Rattle.spot_terms.specs.Cells.{Lane}
-use Rattle.lanelets.specs.Holding.{HoldsAt, IsHolding}
-use Rattle.lanelets.specs.Listing.{Lists}
+use Rattle.lanelets.specs.Holding.{HoldsAt}
+use Rattle.spot_terms.specs.Routes.{IsStartCell}
+use Rattle.spot_terms.specs.Lists.{Lists}
 use Rattle.lanelets.proofs.BuiltCells.{as_many}
 use Rattle.lanelets.proofs.Holds.{holding_is}
 use Rattle.lanelets.proofs.network.Network.cells_at.Goals as goal
@@ -14,5 +15,5 @@ cells_holding-requires c =
 pub returns : goal.returns
 returns c =
     let list : Lists (HoldsAt c.self.inside.cells.items c.args.p) c.in_ok-list.list = rw c.deref.ensures.value at c.in_ok-list.ensures in
-    subst (λ (lanes : List Lane). Lists (IsHolding lanes c.args.p) c.in_ok-list.list) c.self.view_is
+    subst (λ (lanes : List Lane). Lists (IsStartCell lanes c.args.p) c.in_ok-list.list) c.self.view_is
     (holding_is c.self.inside.built_from.value.entries c.self.inside.cells.items c.args.p c.in_ok-list.list c.self.invariant.placed list)

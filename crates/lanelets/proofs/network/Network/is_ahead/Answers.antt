@@ -2,7 +2,7 @@ use Rattle.std.proofs.Common.{◌≡◌, ◌∙◌, List, subst, sym}
 use Rattle.std.specs.Prelude.{Some, slice_get}
 use Rattle.spot_terms.specs.Cells.{Lane, cells}
 use Rattle.spot_terms.specs.Network.{IsAhead}
-use Rattle.lanelets.specs.Listing.{Lists}
+use Rattle.spot_terms.specs.Lists.{Lists}
 use Rattle.lanelets.proofs.Disjunctions.{any_includes}
 use Rattle.lanelets.proofs.network.Network.is_ahead.Goals as goal
 

@@ -1,0 +1,9 @@
+use Rattle.std.proofs.Common.{refl}
+use Rattle.lanelets.specs.Steps.{net_of, IsOfLane}
+use Rattle.lanelets.proofs.RowLists.{rows_next, both_ways}
+use Rattle.lanelets.proofs.nearby.lane_rows.Goals as goal
+
+pub loop-c-preserved : goal.loop-c-preserved
+loop-c-preserved c =
+    rows_next (λ k e. IsOfLane (net_of c.args.cells.now) k e) c.loop-c.c _ c.loop-c.rows.items c.push.new.self.items c.in_ok-one_or_none.field-0 refl c.in_ok-push.ensures.items c.loop-c.invariant
+    (λ x. both_ways _ _ _ (c.in_ok-one_or_none.ensures x) (c.lane_at_cell.ensures x))
