@@ -1,7 +1,6 @@
 -- Where all links of the waypoints are settled, the lengths of the cells are their labels.
-use Rattle.std.proofs.Common.{◌≡◌, ℕ, ◌+◌, ◌≤◌, ◌<◌, arith, refl, sym, ap, ◌∙◌, subst, List, [], ◌∷◌, ◌++◌, length, take, drop, inl, inr}
+use Rattle.std.proofs.Common.{◌≡◌, ℕ, ◌+◌, ◌≤◌, ◌<◌, arith, refl, sym, ap, ◌∙◌, subst, List, [], ◌∷◌, length, take, inl, inr}
 use Rattle.std.specs.Prelude.{slice_get, Some, None, Option}
-use Rattle.std.specs.List.{AllByRecursion}
 use Rattle.std.proofs.lemmas.List.{length-take-le}
 use Rattle.std.proofs.lemmas.Option.{slice_get_within, none-some, same_Some}
 use Rattle.convex_poly.proofs.Places.{order}
@@ -10,15 +9,18 @@ use Rattle.spot_terms.specs.Cells.{Lane, NetCell, cells, corners_of}
 use Rattle.spot_terms.specs.Gaps.{IsGap}
 use Rattle.spot_terms.specs.Lists.{Includes}
 use Rattle.spot_terms.specs.Network.{IsSide}
-use Rattle.spot_terms.specs.Routes.{IsRoute}
-use Rattle.spot_terms.proofs.ListLemmas.{all_included}
-use Rattle.lane_paths.specs.declared.rounds.Edge.{Edge}
-use Rattle.lane_paths.specs.Walks.{IsWalk, here, entry_of}
-use Rattle.lane_paths.specs.Reaches.{IsReached, at_first, along, HasAtMost, IsSettled, IsMadeOf, AreEdges, AreFirst}
-use Rattle.lane_paths.specs.Waypoints.{entry_at, start_at, Leaves, from_start, from_entry, Enters, to_end, to_entry, IsLink}
+use Rattle.spot_terms.specs.Routes.{IsRoute, IsStartCell}
+use Rattle.lane_paths.specs.Walks.{IsWalk, entry_of}
+use Rattle.lanelets.specs.Beside.{here}
+use Rattle.lane_paths.specs.Reaches.{Edge, IsReached, at_first, along, HasAtMost, IsSettled, AreFirst}
+use Rattle.lane_paths.specs.Waypoints.{entry_at, start_at, Leaves, from_start, from_entry, Enters, to_end, to_entry, IsLink, LinksFromStart}
+use Rattle.lane_paths.specs.declared.search.Search.{Search}
+use Rattle.lane_paths.specs.Searches.{AreSettled, HasPlaces, IsUnderWay, Spreads}
+use Rattle.lane_paths.proofs.SearchLaws.{started}
 use Rattle.lane_paths.specs.Labels.{AreLabels}
-use Rattle.lane_paths.proofs.Items.{get_take, there, written}
-use Rattle.lane_paths.proofs.WalkLaws.{same_cell, walk_started, walk_beside, walk_ahead, walk_route, beside_on, IsClosed, closed_knows}
+use Rattle.lane_paths.proofs.Items.{get_take, there}
+use Rattle.lanelets.proofs.BesideLaws.{beside_on}
+use Rattle.lane_paths.proofs.WalkLaws.{same_cell, walk_started, walk_beside, walk_ahead, walk_route, IsClosed, closed_knows}
 
 -- ---- what is reached is the length of a way
 
@@ -61,16 +63,15 @@ way_enters lanes p c _ m g w _ (to_entry d a s h) k i =
     }
 
 -- what is reached along links is the length of a way
-reached_way : (lanes : List Lane) (p : Pt) (limit : ℕ) (edges : List Edge) (first : List (Option ℕ)) (i m : ℕ) → AreEdges (IsLink lanes p) edges → AreFirst (length (cells lanes)) first → IsReached edges limit first i m → IsWayTo lanes p i m
-reached_way lanes p limit edges first i m k f (at_first _ _ g) = let (e, z) = f.only i m g in way_at_first lanes p i m e z
-reached_way lanes p limit edges first _ _ k f (along e m j r low) =
-    let (c, l) = (k e).0 j in
-    way_enters lanes p c e.to m e.gap l.w l.v l.enters (way_leaves lanes p c e.from m l.w l.leaves (reached_way lanes p limit edges first e.from m k f r)) l.gap
+reached_way : (lanes : List Lane) (p : Pt) (limit : ℕ) (first : List (Option ℕ)) (i m : ℕ) → AreFirst (length (cells lanes)) first → IsReached (IsLink lanes p) limit first i m → IsWayTo lanes p i m
+reached_way lanes p limit first i m f (at_first _ _ g) = let (e, z) = f.only i m g in way_at_first lanes p i m e z
+reached_way lanes p limit first _ _ f (along e m (c, l) r low) =
+    way_enters lanes p c e.to m e.gap l.w l.v l.enters (way_leaves lanes p c e.from m l.w l.leaves (reached_way lanes p limit first e.from m f r)) l.gap
 
 -- what isn't the start is reached along an edge, so within the limit
-reached_low : (n limit : ℕ) (edges : List Edge) (first : List (Option ℕ)) (i m : ℕ) → AreFirst n first → IsReached edges limit first i m → i < n → m ≤ limit
-reached_low n limit edges first i m f (at_first _ _ g) l = absurd (let h = (f.only i m g).0 in omega (arith, h, l))
-reached_low n limit edges first _ _ f (along e m j r low) l = low
+reached_low : (lanes : List Lane) (p : Pt) (n limit : ℕ) (first : List (Option ℕ)) (i m : ℕ) → AreFirst n first → IsReached (IsLink lanes p) limit first i m → i < n → m ≤ limit
+reached_low lanes p n limit first i m f (at_first _ _ g) l = absurd (let h = (f.only i m g).0 in omega (arith, h, l))
+reached_low lanes p n limit first _ _ f (along e m j r low) l = low
 
 -- ---- where all links are settled, no way is unknown
 
@@ -82,57 +83,57 @@ record Knows (lanes : List Lane) (p : Pt) (lengths : List (Option ℕ)) (c : ℕ
 
 -- a side move away
 leaves_on : (lanes : List Lane) (p : Pt) (c d i : ℕ) (w : List Pt) → Leaves lanes p c i w → IsSide lanes (cells lanes) c d → Leaves lanes p d i w
-leaves_on lanes p c d _ _ (from_start s i b) h = from_start s i (beside_on lanes c d s b h)
-leaves_on lanes p c d _ _ (from_entry e a g b) h = from_entry e a g (beside_on lanes c d e b h)
+leaves_on lanes p c d _ _ (from_start s i b) h = from_start s i (beside_on lanes (cells lanes) c d s b h)
+leaves_on lanes p c d _ _ (from_entry e a g b) h = from_entry e a g (beside_on lanes (cells lanes) c d e b h)
 
 -- a settled link
-link_settled : (lanes : List Lane) (p : Pt) (limit : ℕ) (edges : List Edge) (lengths : List (Option ℕ)) (c j m g : ℕ) (w v : List Pt) → AreEdges (IsLink lanes p) edges → AllByRecursion (IsSettled limit lengths) edges
+link_settled : (lanes : List Lane) (p : Pt) (limit : ℕ) (lengths : List (Option ℕ)) (c j m g : ℕ) (w v : List Pt) → ((e : Edge) → IsLink lanes p e → IsSettled limit lengths e)
     → Knows lanes p lengths c w m → Enters lanes p c j v → IsGap w v g → m + g ≤ limit → HasAtMost lengths j (m + g)
-link_settled lanes p limit edges lengths c j m g w v k s h e i low =
+link_settled lanes p limit lengths c j m g w v s h e i low =
     let d : Edge = record { from = h.at; to = j; gap = g } in
-    let d_in : Includes edges d = (k d).1 (c, record { w = w; v = v; leaves = h.leaves; enters = e; gap = i }) in
+    let d_is : IsLink lanes p d = (c, record { w = w; v = v; leaves = h.leaves; enters = e; gap = i }) in
     let (l, l_is, l_most) = h.most in
-    let (r, r_is, r_most) = all_included (IsSettled limit lengths) edges d s d_in l l_is (omega (arith, l_most, low)) in
+    let (r, r_is, r_most) = s d d_is l l_is (omega (arith, l_most, low)) in
     (r, r_is, omega (arith, l_most, r_most))
 
 -- what the settled lengths know of is closed
-settled_closed : (lanes : List Lane) (p : Pt) (limit : ℕ) (edges : List Edge) (lengths : List (Option ℕ)) → AreEdges (IsLink lanes p) edges → AllByRecursion (IsSettled limit lengths) edges
+settled_closed : (lanes : List Lane) (p : Pt) (limit : ℕ) (lengths : List (Option ℕ)) → ((e : Edge) → IsLink lanes p e → IsSettled limit lengths e)
     → HasAtMost lengths (start_at lanes p) 0 → IsClosed lanes p limit (Knows lanes p lengths)
-settled_closed lanes p limit edges lengths k s start = record {
+settled_closed lanes p limit lengths s start = record {
   starts = λ c i. record { at = start_at lanes p; leaves = from_start c i here; most = start };
   sides = λ c d w m h i. record { at = h.at; leaves = leaves_on lanes p c d h.at w h.leaves i; most = h.most };
   aheads = λ c d a w m g h i e j low. record {
     at = entry_at lanes p d;
     leaves = from_entry d a e here;
-    most = link_settled lanes p limit edges lengths c (entry_at lanes p d) m g w (entry_of a) k s h (to_entry d a i e) j low;
+    most = link_settled lanes p limit lengths c (entry_at lanes p d) m g w (entry_of a) s h (to_entry d a i e) j low;
   };
 }
 
 -- for each route up to the limit the cell has a length that is at most that
-route_known : (lanes : List Lane) (p : Pt) (limit : ℕ) (edges : List Edge) (lengths : List (Option ℕ)) (d n : ℕ) → AreEdges (IsLink lanes p) edges → AllByRecursion (IsSettled limit lengths) edges
+route_known : (lanes : List Lane) (p : Pt) (limit : ℕ) (lengths : List (Option ℕ)) (d n : ℕ) → ((e : Edge) → IsLink lanes p e → IsSettled limit lengths e)
     → HasAtMost lengths (start_at lanes p) 0 → IsRoute lanes p d n → n ≤ limit → HasAtMost lengths d n
-route_known lanes p limit edges lengths d n k s start r low =
-    let f = closed_knows lanes p limit (Knows lanes p lengths) (settled_closed lanes p limit edges lengths k s start) d n r low in
+route_known lanes p limit lengths d n s start r low =
+    let f = closed_knows lanes p limit (Knows lanes p lengths) (settled_closed lanes p limit lengths s start) d n r low in
     subst (λ (z : ℕ). HasAtMost lengths d z) (sym f.same)
-    (link_settled lanes p limit edges lengths d d f.m f.g f.w (corners_of f.last) k s f.known (to_end f.last f.last_is) f.gap (omega (arith, f.same, low)))
+    (link_settled lanes p limit lengths d d f.m f.g f.w (corners_of f.last) s f.known (to_end f.last f.last_is) f.gap (omega (arith, f.same, low)))
 
 -- ---- labels
 
--- the lengths of the cells, once the edges are settled
-pub settled_labels : (lanes : List Lane) (p : Pt) (limit : ℕ) (edges : List Edge) (first lengths : List (Option ℕ)) → length (cells lanes) ≤ length lengths → AreEdges (IsLink lanes p) edges → AreFirst (length (cells lanes)) first
-    → IsMadeOf edges limit first lengths → AllByRecursion (IsSettled limit lengths) edges → AreLabels lanes p limit (take (length (cells lanes)) lengths)
-settled_labels lanes p limit edges first lengths long k f made s = record {
+-- the lengths of the cells, once the links are settled
+pub settled_labels : (lanes : List Lane) (p : Pt) (limit : ℕ) (first lengths : List (Option ℕ)) → length (cells lanes) ≤ length lengths → AreFirst (length (cells lanes)) first → AreSettled lanes p limit first lengths
+    → AreLabels lanes p limit (take (length (cells lanes)) lengths)
+settled_labels lanes p limit first lengths long f done = record {
   count = count_take lengths (length (cells lanes)) long;
   some = λ c n h.
       let (inside, is) = get_take lengths (length (cells lanes)) c (Some n) h in
       let (a, a_is) = there (cells lanes) c inside in
-      let r = made.reached c n is in
-      let low : n ≤ limit = reached_low (length (cells lanes)) limit edges first c n f r inside in (
+      let r = done.made.reached c n is in
+      let low : n ≤ limit = reached_low lanes p (length (cells lanes)) limit first c n f r inside in (
         record {
-          holds = (reached_way lanes p limit edges first c n k f r).«end» c a refl a_is;
+          holds = (reached_way lanes p limit first c n f r).«end» c a refl a_is;
           least = λ q route. elim (order limit q) [
             | inl past ↦ omega (arith, low, past)
-            | inr within ↦ let (m, m_is, m_most) = route_known lanes p limit edges lengths c q k s start route within in let same : n ≡ m = same_Some n m (same_Some (Some n) (Some m) (sym is ∙ m_is)) in omega (arith, same, m_most)
+            | inr within ↦ let (m, m_is, m_most) = route_known lanes p limit lengths c q done.settled start route within in let same : n ≡ m = same_Some n m (same_Some (Some n) (Some m) (sym is ∙ m_is)) in omega (arith, same, m_most)
           ];
         },
         low,
@@ -141,25 +142,30 @@ settled_labels lanes p limit edges first lengths long k f made s = record {
       let (inside, is) = get_take lengths (length (cells lanes)) c None h in
       elim (order limit n) [
         | inl past ↦ past
-        | inr within ↦ let (m, m_is, m_most) = route_known lanes p limit edges lengths c n k s start route within in absurd (none-some m (same_Some None (Some m) (sym is ∙ m_is)))
+        | inr within ↦ let (m, m_is, m_most) = route_known lanes p limit lengths c n done.settled start route within in absurd (none-some m (same_Some None (Some m) (sym is ∙ m_is)))
       ];
 }
   where
     start : HasAtMost lengths (start_at lanes p) 0
-    start = made.kept (start_at lanes p) 0 f.start
+    start = done.made.kept (start_at lanes p) 0 f.start
 
     count_take : (xs : List (Option ℕ)) (n : ℕ) → n ≤ length xs → length (take n xs) ≡ n
     count_take xs n h = length-take-le n xs h
 
--- the labels as they are written back and cut off
-pub labels_written : (lanes : List Lane) (p : Pt) (limit count many : ℕ) (edges looked : List Edge) (first given now labels : List (Option ℕ)) → looked ≡ edges → given ≡ first → count ≡ length (cells lanes) → many ≡ length first
-    → AreEdges (IsLink lanes p) edges → AreFirst count first → IsMadeOf looked limit given now → AllByRecursion (IsSettled limit now) looked → length now ≡ length given → labels ≡ take count (take many (now ++ drop (length now) first))
-    → AreLabels lanes p limit labels
-labels_written lanes p limit count many edges looked first given now labels same_edges same_first count_is many_is k begun made settled long labels_are =
-    let made_first : IsMadeOf edges limit first now = subst (λ (z : List (Option ℕ)). IsMadeOf edges limit z now) same_first (subst (λ (z : List Edge). IsMadeOf z limit given now) same_edges made) in
-    let as_long : length now ≡ length first = long ∙ ap length same_first in
-    let begun_cells : AreFirst (length (cells lanes)) first = subst (λ (z : ℕ). AreFirst z first) count_is begun in
-    let many_first = begun_cells.count in
-    let are : labels ≡ take (length (cells lanes)) now = labels_are ∙ ap (take count) (written many now first many_is as_long) ∙ ap (λ (z : ℕ). take z now) count_is in
-    subst (λ (z : List (Option ℕ)). AreLabels lanes p limit z) (sym are)
-    (settled_labels lanes p limit edges first now (omega (arith, as_long, many_first)) k begun_cells made_first (subst (λ (z : List Edge). AllByRecursion (IsSettled limit now) z) same_edges settled))
+-- the places of a search that begins
+pub begun_places : (lanes : List Lane) (n : ℕ) (s : Search) → s.count ≡ n → n ≡ length (cells lanes) → AreFirst n s.lengths.items → s.pending ≡ [] → HasPlaces lanes s
+begun_places lanes n s count same begun none = record {
+  count_is = count ∙ same;
+  many = begun.count ∙ ap (λ (z : ℕ). z + z + 1) (sym count);
+  within = λ x i. absurd (subst (λ (z : List (ℕ × ℕ)). Includes z x) none i);
+}
+
+-- the labels of a whole search
+pub search_labels : (lanes : List Lane) (p : Pt) (limit n : ℕ) (starts : List ℕ) (a b c : Search) (labels : List (Option ℕ)) → a.count ≡ n → n ≡ length (cells lanes) → a.limit ≡ limit → AreFirst n a.lengths.items → a.pending ≡ []
+    → ((s : ℕ) → IsStartCell lanes p s → Includes starts s) → Spreads (LinksFromStart lanes p starts) 0 a b → ((q : Pt) (first : List (Option ℕ)) → IsUnderWay lanes q first b → AreSettled lanes q b.limit first c.lengths.items)
+    → HasPlaces lanes c → labels ≡ take c.count c.lengths.items → AreLabels lanes p limit labels
+search_labels lanes p limit n starts a b c labels count same limit_is begun none every g h places is =
+    let under = started lanes p starts a b every (begun_places lanes n a count same begun none) (subst (λ (z : ℕ). AreFirst z a.lengths.items) (sym count) begun) g in
+    let done : AreSettled lanes p limit a.lengths.items c.lengths.items = subst (λ (z : ℕ). AreSettled lanes p z a.lengths.items c.lengths.items) (g.limit_same ∙ limit_is) (h p a.lengths.items under) in
+    subst (AreLabels lanes p limit) (sym (is ∙ ap (λ (z : ℕ). take z c.lengths.items) places.count_is))
+    (settled_labels lanes p limit a.lengths.items c.lengths.items (let many = places.many in let m = places.count_is in omega (arith, many, m)) (subst (λ (z : ℕ). AreFirst z a.lengths.items) same begun) done)

@@ -1,36 +1,13 @@
 -- Lists of lengths, as they are made to begin with.
-use Rattle.std.proofs.Common.{◌≡◌, ◌⊎◌, inl, inr, ℕ, ◌+◌, ◌<◌, arith, refl, sym, ap, ◌∙◌, subst, List, [], ◌∷◌, ◌++◌, length, length-append}
+use Rattle.std.proofs.Common.{◌≡◌, inl, inr, ℕ, ◌+◌, arith, refl, sym, ◌∙◌, subst, List, [], ◌∷◌, ◌++◌, length, length-append}
 use Rattle.std.specs.Prelude.{slice_get, Some, None, Option}
 use Rattle.std.proofs.lemmas.Option.{none-some, same_Some}
-use Rattle.lane_paths.specs.Reaches.{AreOwn, AreFirst}
-use Rattle.lane_paths.proofs.Items.{get_front, get_last, get_either, below_or_here}
-
--- ---- each number in its own place
+use Rattle.lane_paths.specs.Reaches.{AreFirst}
+use Rattle.lane_paths.proofs.Items.{get_last, get_either}
 
 -- an empty list has no length
 none_there : (i m : ℕ) → slice_get {X = Option ℕ} [] i ≡ Some (Some m) → ⊥
 none_there i m e = none-some (Some m) e
-
--- of no numbers
-pub own_none : (numbers : List (Option ℕ)) → numbers ≡ [] → AreOwn 0 numbers
-own_none numbers e = subst (λ (z : List (Option ℕ)). AreOwn 0 z) (sym e) (record { count = refl; own = λ i m g. absurd (none_there i m g); some = λ i h. absurd (omega (arith, h)) })
-
--- of one more number
-pub own_more : (n m : ℕ) (numbers after : List (Option ℕ)) → m ≡ n → AreOwn n numbers → after ≡ numbers ++ Some m ∷ [] → AreOwn (n + 1) after
-own_more n m numbers after same k e = subst (λ (z : List (Option ℕ)). AreOwn (n + 1) z) (sym (e ∙ ap (λ (z : ℕ). numbers ++ Some z ∷ []) same)) (record {
-  count = let c = k.count in let l : length (numbers ++ Some n ∷ []) ≡ length numbers + 1 = length-append numbers (Some n ∷ []) in omega (arith, c, l);
-  own = λ i m g. elim (get_either numbers i (Some n) (Some m) g) [
-    | inl h ↦ k.own i m h
-    | inr (last, is) ↦ same_Some m n is ∙ sym k.count ∙ sym last
-  ];
-  some = λ i h. place i (below_or_here i n h);
-})
-  where
-    place : (i : ℕ) → (i < n) ⊎ (i ≡ n) → slice_get (numbers ++ Some n ∷ []) i ≡ Some (Some i)
-    place i (inl l) = let c = k.count in get_front numbers (Some n ∷ []) i (omega (arith, l, c)) ∙ k.some i l
-    place i (inr e) = subst (λ (z : ℕ). slice_get (numbers ++ Some n ∷ []) i ≡ Some (Some z)) (sym e) (get_last numbers i (Some n) (e ∙ sym k.count))
-
--- ---- only the last has a length
 
 -- n items, none of which is a length
 pub record AreNone (n : ℕ) (lengths : List (Option ℕ)) : Type 0 where

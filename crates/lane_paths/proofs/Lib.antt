@@ -8,11 +8,10 @@ pub mod DifferenceLists
 pub mod GapSteps
 pub mod Items
 pub mod WalkLaws
-pub mod ReachLaws
-pub mod EdgeLists
+pub mod SpreadLaws
+pub mod PendingLists
+pub mod SearchLaws
 pub mod LabelLaws
-pub mod ClassLaws
 pub mod Positions
 pub mod LengthLists
 pub mod LinkLaws
-pub mod SideLaws

@@ -8,8 +8,8 @@ use Rattle.spot_terms.specs.Cells.{Lane, NetCell, cells, corners_of}
 use Rattle.spot_terms.specs.Gaps.{IsGap}
 use Rattle.spot_terms.specs.Network.{IsAhead, IsSide}
 use Rattle.spot_terms.specs.Routes.{Leg, ahead, side, Leads, Crosses, GapsSumTo, IsStartCell, IsRoute}
-use Rattle.lane_paths.proofs.SideLaws.{side_back}
-use Rattle.lane_paths.specs.Walks.{EndsWith, IsWalk, IsBeside, here, next, entry_of}
+use Rattle.lanelets.specs.Beside.{IsBeside, here, next}
+use Rattle.lane_paths.specs.Walks.{EndsWith, IsWalk, entry_of}
 
 -- cells with one number are one
 pub same_cell : (lanes : List Lane) (c d : ℕ) (a b : NetCell) → c ≡ d → slice_get (cells lanes) c ≡ Some a → slice_get (cells lanes) d ≡ Some b → a ≡ b
@@ -90,27 +90,13 @@ walk_route lanes p d a w m g k e i = record {
 -- ---- cells beside each other
 
 -- side moves cross nothing
-pub walk_beside : (lanes : List Lane) (p : Pt) (d c : ℕ) (w : List Pt) (m : ℕ) → IsBeside lanes d c → IsWalk lanes p c w m → IsWalk lanes p d w m
+pub walk_beside : (lanes : List Lane) (p : Pt) (d c : ℕ) (w : List Pt) (m : ℕ) → IsBeside lanes (cells lanes) d c → IsWalk lanes p c w m → IsWalk lanes p d w m
 walk_beside lanes p d c w m here k = k
 walk_beside lanes p d c w m (next {e = e} h b) k = walk_beside lanes p d e w m b (walk_side lanes p c e w m k h)
 
 -- the cells beside a start cell are reached with the start as waypoint
-pub walk_started : (lanes : List Lane) (p : Pt) (d c : ℕ) → IsBeside lanes d c → IsStartCell lanes p c → IsWalk lanes p d (p ∷ []) 0
+pub walk_started : (lanes : List Lane) (p : Pt) (d c : ℕ) → IsBeside lanes (cells lanes) d c → IsStartCell lanes p c → IsWalk lanes p d (p ∷ []) 0
 walk_started lanes p d c b s = walk_beside lanes p d c (p ∷ []) 0 b (walk_start lanes p c s)
-
--- side moves after side moves
-pub beside_join : (lanes : List Lane) (e d c : ℕ) → IsBeside lanes d c → IsBeside lanes e d → IsBeside lanes e c
-beside_join lanes e d c here k = k
-beside_join lanes e d c (next {e = f} h b) k = next h (beside_join lanes e d f b k)
-
--- one more side move
-pub beside_on : (lanes : List Lane) (d e c : ℕ) → IsBeside lanes d c → IsSide lanes (cells lanes) d e → IsBeside lanes e c
-beside_on lanes d e c b s = beside_join lanes e d c b (next s here)
-
--- side moves lead back
-pub beside_back : (lanes : List Lane) (d c : ℕ) → IsBeside lanes d c → IsBeside lanes c d
-beside_back lanes d c here = here
-beside_back lanes d c (next {e = e} h b) = beside_on lanes e c d (beside_back lanes d e b) (side_back lanes (cells lanes) c e h)
 
 -- ---- what knows of all routes
 

@@ -2,6 +2,6 @@
 pub mod Spans
 pub mod Walks
 pub mod Reaches
-pub mod Classes
 pub mod Waypoints
+pub mod Searches
 pub mod Labels

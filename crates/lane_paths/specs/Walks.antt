@@ -1,7 +1,6 @@
--- Routes so far, with the waypoint that was crossed last, and cells that lie beside each other.
+-- Routes so far, with the waypoint that was crossed last.
 use Rattle.std.specs.Prelude.{◌≡◌, ℕ, List, [], ◌∷◌}
-use Rattle.spot_terms.specs.Cells.{Lane, NetCell, cells}
-use Rattle.spot_terms.specs.Network.{IsSide}
+use Rattle.spot_terms.specs.Cells.{Lane, NetCell}
 use Rattle.spot_terms.specs.Routes.{Leg, Leads, Crosses, GapsSumTo, IsStartCell}
 use Rattle.spot_terms.specs.declared.plain.Pt.{Pt}
 
@@ -25,8 +24,3 @@ pub record IsWalk (lanes : List Lane) (p : Pt) (c : ℕ) (w : List Pt) (m : ℕ)
   pub crosses : Crosses lanes legs portals
   pub ends : EndsWith ((p ∷ []) ∷ portals) w
   pub length : GapsSumTo lanes ((p ∷ []) ∷ portals) m
-
--- side moves alone lead from cell c to cell d
-pub data IsBeside (lanes : List Lane) (d : ℕ) : ℕ → Type 0 where
-  here : IsBeside lanes d d
-  next : {c e : ℕ} → IsSide lanes (cells lanes) c e → IsBeside lanes d e → IsBeside lanes d c

@@ -1,12 +1,10 @@
 //! Labels: the least lengths of routes.
 
-ghost use Rattle.std.specs.Prelude.{◌≡◌, ◌<◌, ◌≤◌, ℕ, List, Option, Some, length, slice_get, IfOk};
+ghost use Rattle.std.specs.Prelude.{◌≡◌, ◌<◌, ℕ, List, Option, Some, length, slice_get, IfOk};
 ghost use Rattle.lane_paths.specs.Labels.{AreLabels};
-ghost use Rattle.lane_paths.specs.Reaches.{AreFirst};
 
-use crate::classes::side_classes;
-use crate::links::all_links;
-use crate::rounds::settle;
+use crate::links::{spread_all, spread_start};
+use crate::search::Search;
 use lanelets::Network;
 use spot_terms::Pt;
 use std::alloc::{AllocError, Global};
@@ -38,24 +36,11 @@ impl LabelTable {
 pub fn labels(alloc: Global, net: &Network, start: Pt, limit: u64) -> Result<LabelTable, AllocError>
     ensures { IfOk result (λ table. AreLabels net.now start limit table) }
 {
-    let classes = side_classes(alloc, net)?;
-    let edges = all_links(alloc, net, start, &classes)?;
-    let count = net.len();
-    let mut lengths = first_lengths(alloc, count)?;
-    settle(&edges, &mut lengths, limit);
-    lengths.truncate(count as usize);
-    Ok(LabelTable { labels: lengths })
-}
-
-/// The lengths of the waypoints of `count` cells to begin with: only the start, which is the last, has one.
-fn first_lengths(alloc: Global, count: u32) -> Result<Vec<Option<u64>>, AllocError>
-    ensures { IfOk result (λ lengths. AreFirst count lengths.items) }
-{
-    let before = 2 * count as usize;
-    let mut lengths = Vec::with_capacity(alloc, before + 1)?;
-    for _ in 0..before {
-        lengths.push(None)?;
-    }
-    lengths.push(Some(0))?;
-    Ok(lengths)
+    let starts = net.cells_at(alloc, start)?;
+    let mut search = Search::new(alloc, net.len(), limit)?;
+    spread_start(&mut search, net, start, starts.list())?;
+    spread_all(&mut search, net)?;
+    Ok(LabelTable {
+        labels: search.into_labels(),
+    })
 }

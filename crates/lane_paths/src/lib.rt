@@ -1,12 +1,12 @@
 //! Gaps of convex polygons, and labels: the least lengths of routes through a network. All lengths are whole µm.
 #![tactic(auto)]
 
-mod classes;
 mod gaps;
 mod label_table;
 mod links;
 mod nearest;
-mod rounds;
+mod pending;
+mod search;
 
 pub use gaps::gap;
 pub use label_table::{LabelTable, labels};

@@ -1,161 +1,147 @@
-//! The links between waypoints. Of n cells, number c is the hull of cell c, where a route ends, n + d is the entry of
-//! cell d, and 2n is the start.
+//! Which waypoints follow each other, and how lengths go on from one to the next.
 
-ghost use Rattle.std.specs.Prelude.{◌≡◌, ◌<◌, ◌∷◌, ℕ, [], length, OnOk, IfOk};
+ghost use Rattle.std.specs.Prelude.{◌≡◌, ◌<◌, ◌∷◌, ℕ, [], List, Option, length, true, false, IfOk, OnOk};
 ghost use Rattle.std.specs.List.{AllByRecursion};
 ghost use Rattle.spot_terms.specs.Cells.{cells};
-ghost use Rattle.spot_terms.specs.Gaps.{IsGap};
 ghost use Rattle.spot_terms.specs.Hull.{InHull, IsHullOf};
 ghost use Rattle.spot_terms.specs.Network.{IsAhead};
 ghost use Rattle.spot_terms.specs.Routes.{IsStartCell};
 ghost use Rattle.spot_terms.specs.declared.plain.Pt.{Pt as Point};
 ghost use Rattle.convex_poly.specs.Polygons.{IsPosition};
-ghost use Rattle.lane_paths.specs.Classes.{AreClasses};
-ghost use Rattle.lane_paths.specs.Reaches.{AreEdges, Gains, IsPushed};
-ghost use Rattle.lane_paths.specs.Waypoints.{IsLink, IsWaypoint, LinksBeside, LinksFrom, LinksFromEntries, LinksFromStart, LinksToEntries};
+ghost use Rattle.lane_paths.specs.Searches.{AreSettled, HasPlaces, IsUnderWay, Spreads, size_of};
+ghost use Rattle.lane_paths.specs.Waypoints.{IsWaypoint, LinksFrom, LinksFromStart, LinksBeside, LinksOf, LinksTo, LinksToEntries, entry_at};
 
-use crate::gaps::gap;
-use crate::rounds::Edge;
+use crate::search::{Search, Waypoint};
 use convex_poly::{Poly, hull};
 use lanelets::{Cell, Network};
 use spot_terms::Pt;
-use std::alloc::{AllocError, Global};
+use std::alloc::AllocError;
 
-/// A waypoint with its number, a cell in which it can be left, and its hull.
-#[derive(Drop)]
-pub(crate) struct Waypoint {
-    pub(crate) number: usize,
-    pub(crate) cell: u32,
-    pub(crate) shape: Poly,
-}
-
-/// The links of all waypoints.
-pub(crate) fn all_links(
-    alloc: Global,
+/// Goes on from the start, which each of `starts` holds.
+pub(crate) fn spread_start(
+    search: &mut Search,
     net: &Network,
-    start: Pt,
-    classes: &[Option<u64>],
-) -> Result<Vec<Edge>, AllocError>
-    requires { AreClasses net.now classes.now }
-    ensures { IfOk result (λ edges. AreEdges (IsLink net.now start) edges.items) }
-{
-    let mut edges = Vec::new(alloc);
-    let starts = net.cells_at(alloc, start)?;
-    push_starts(&mut edges, net, classes, start, starts.list())?;
-    push_entries(&mut edges, net, classes)?;
-    Ok(edges)
-}
-
-/// Adds the links from the start, which each of `starts` holds.
-fn push_starts(
-    edges: &mut Vec<Edge>,
-    net: &Network,
-    classes: &[Option<u64>],
     start: Pt,
     starts: &[u32],
 ) -> Result<(), AllocError>
-    requires classes { AreClasses net.now classes.now }
+    requires places { HasPlaces net.now search.old }
     requires starts { AllByRecursion (IsStartCell net.now start) starts.now }
-    ensures { OnOk result (Gains (LinksFromStart net.now start starts.now) edges.old.items edges.new.items) }
+    ensures places { OnOk result (HasPlaces net.now search.new) }
+    ensures spreads { OnOk result (Spreads (LinksFromStart net.now start starts.now) 0 search.old search.new) }
 {
-    let number = 2 * net.len() as usize;
     for s in starts {
         let from = Waypoint {
-            number,
             cell: *s,
+            way: 0,
             shape: point_in(&net.cell(*s).poly, start),
         };
-        push_waypoint(edges, net, classes, &from)?;
+        spread_waypoint(search, net, &from)?;
     }
     Ok(())
 }
 
-/// Adds the links from the entries of all cells.
-fn push_entries(
-    edges: &mut Vec<Edge>,
-    net: &Network,
-    classes: &[Option<u64>],
-) -> Result<(), AllocError>
-    requires { AreClasses net.now classes.now }
-    ensures { OnOk result ((p : Point) → Gains (LinksFromEntries net.now p (length (cells net.now))) edges.old.items edges.new.items) }
+/// Goes on from entries until no length becomes less.
+pub(crate) fn spread_all(search: &mut Search, net: &Network) -> Result<(), AllocError>
+    requires { HasPlaces net.now search.old }
+    ensures places { OnOk result (HasPlaces net.now search.new) }
+    ensures settled { OnOk result ((p : Point) (first : List (Option ℕ)) → IsUnderWay net.now p first search.old → AreSettled net.now p search.old.limit first search.new.lengths.items) }
 {
-    let count = net.len();
-    for d in 0..count {
-        let from = Waypoint {
-            number: count as usize + d as usize,
-            cell: d,
-            shape: entry_of(net.cell(d)),
-        };
-        push_waypoint(edges, net, classes, &from)?;
-    }
+    while spread_next(search, net)? {}
     Ok(())
 }
 
-/// Adds the links from a waypoint in all cells to which side moves lead from its cell.
-fn push_waypoint(
-    edges: &mut Vec<Edge>,
-    net: &Network,
-    classes: &[Option<u64>],
-    from: &Waypoint,
-) -> Result<(), AllocError>
-    requires classes { AreClasses net.now classes.now }
+/// Goes on from one of the pending entries, unless its length became less since. Whether there was one.
+fn spread_next(search: &mut Search, net: &Network) -> Result<bool, AllocError>
+    requires { HasPlaces net.now search.old }
+    ensures places { OnOk result (HasPlaces net.now search.new) }
+    ensures limit { OnOk result (search.new.limit ≡ search.old.limit) }
+    ensures less { IfOk result (λ more. more ≡ true → size_of search.new < size_of search.old) }
+    ensures none { IfOk result (λ more. more ≡ false → search.new.pending ≡ []) }
+    ensures under_way { OnOk result ((p : Point) (first : List (Option ℕ)) → IsUnderWay net.now p first search.old → IsUnderWay net.now p first search.new) }
+{
+    let Some((way, d)) = search.pending.pop() else {
+        return Ok(false);
+    };
+    if !search.is_current(way, d) {
+        return Ok(true);
+    }
+    spread_entry(search, net, way, d)?;
+    Ok(true)
+}
+
+/// Goes on from the entry of a cell, to which the way is so long.
+fn spread_entry(search: &mut Search, net: &Network, way: u64, d: u32) -> Result<(), AllocError>
+    requires places { HasPlaces net.now search.old }
+    requires within { d < length (cells net.now) }
+    ensures places { OnOk result (HasPlaces net.now search.new) }
+    ensures spreads { OnOk result ((p : Point) → Spreads (LinksOf net.now p (entry_at net.now p d)) way search.old search.new) }
+{
+    let from = Waypoint {
+        cell: d,
+        way,
+        shape: entry_of(net.cell(d)),
+    };
+    spread_waypoint(search, net, &from)
+}
+
+/// Goes on from a waypoint in all cells to which side moves lead from its cell.
+fn spread_waypoint(search: &mut Search, net: &Network, from: &Waypoint) -> Result<(), AllocError>
+    requires places { HasPlaces net.now search.old }
     requires within { from.now.cell < length (cells net.now) }
-    ensures { OnOk result ((p : Point) → IsWaypoint net.now p from.now.cell from.now → Gains (LinksBeside net.now p from.now.number from.now.cell (length (cells net.now))) edges.old.items edges.new.items) }
+    ensures places { OnOk result (HasPlaces net.now search.new) }
+    ensures spreads { OnOk result ((p : Point) (i : ℕ) → IsWaypoint net.now p i from.now.cell from.now → Spreads (LinksBeside net.now p i from.now.cell) from.now.way search.old search.new) }
 {
-    for c in 0..net.len() {
-        if classes[c as usize] == classes[from.cell as usize] {
-            push_in_cell(edges, net, from, c)?;
-        }
+    for c in net.beside(from.cell) {
+        spread_in_cell(search, net, from, *c)?;
     }
     Ok(())
 }
 
-/// Adds the links from a waypoint in a cell: to the cell itself, and to the entries that are ahead of it.
-fn push_in_cell(
-    edges: &mut Vec<Edge>,
+/// Goes on from a waypoint in a cell: to the cell itself, and to the entries that are ahead of it.
+fn spread_in_cell(
+    search: &mut Search,
     net: &Network,
     from: &Waypoint,
     c: u32,
 ) -> Result<(), AllocError>
-    requires { c < length (cells net.now) }
-    ensures { OnOk result ((p : Point) → IsWaypoint net.now p c from.now → Gains (LinksFrom net.now p from.now.number c) edges.old.items edges.new.items) }
+    requires places { HasPlaces net.now search.old }
+    requires within { c < length (cells net.now) }
+    ensures places { OnOk result (HasPlaces net.now search.new) }
+    ensures spreads { OnOk result ((p : Point) (i : ℕ) → IsWaypoint net.now p i c from.now → Spreads (LinksFrom net.now p i c) from.now.way search.old search.new) }
 {
-    push_link(edges, from, c as usize, &net.cell(c).poly)?;
-    push_ahead(edges, net, from, net.ahead(c))
+    search.reach_end(from, c, &net.cell(c).poly);
+    spread_ahead(search, net, from, net.ahead(c))
 }
 
-/// Adds the links from a waypoint to the entries of some cells.
-fn push_ahead(
-    edges: &mut Vec<Edge>,
+/// Goes on from a waypoint to the entries of some cells.
+fn spread_ahead(
+    search: &mut Search,
     net: &Network,
     from: &Waypoint,
     ahead: &[u32],
 ) -> Result<(), AllocError>
-    requires { AllByRecursion (λ d. d < length (cells net.now)) ahead.now }
-    ensures { OnOk result ((p : Point) (c : ℕ) → IsWaypoint net.now p c from.now → AllByRecursion (IsAhead net.now (cells net.now) c) ahead.now → Gains (LinksToEntries net.now p from.now.number c ahead.now) edges.old.items edges.new.items) }
+    requires places { HasPlaces net.now search.old }
+    requires within { AllByRecursion (λ d. d < length (cells net.now)) ahead.now }
+    ensures places { OnOk result (HasPlaces net.now search.new) }
+    ensures spreads { OnOk result ((p : Point) (i c : ℕ) → IsWaypoint net.now p i c from.now → AllByRecursion (IsAhead net.now (cells net.now) c) ahead.now → Spreads (LinksToEntries net.now p i c ahead.now) from.now.way search.old search.new) }
 {
     for d in ahead {
-        let number = net.len() as usize + *d as usize;
-        push_link(edges, from, number, &entry_of(net.cell(*d)))?;
+        spread_to(search, net, from, *d)?;
     }
     Ok(())
 }
 
-/// Adds the link from a waypoint to the one with this number and hull.
-fn push_link(
-    edges: &mut Vec<Edge>,
-    from: &Waypoint,
-    to: usize,
-    shape: &Poly,
-) -> Result<(), AllocError>
-    ensures { OnOk result (IsPushed from.now.number to (IsGap from.now.shape shape.now) edges.old.items edges.new.items) }
+/// Goes on from a waypoint to the entry of a cell. Its hull is made only where it can matter.
+fn spread_to(search: &mut Search, net: &Network, from: &Waypoint, d: u32) -> Result<(), AllocError>
+    requires places { HasPlaces net.now search.old }
+    requires within { d < length (cells net.now) }
+    ensures places { OnOk result (HasPlaces net.now search.new) }
+    ensures spreads { OnOk result ((p : Point) (i c : ℕ) → IsWaypoint net.now p i c from.now → IsAhead net.now (cells net.now) c d → Spreads (LinksTo net.now p i c (entry_at net.now p d)) from.now.way search.old search.new) }
 {
-    edges.push(Edge {
-        from: from.number,
-        to,
-        gap: gap(&from.shape, shape),
-    })?;
-    Ok(())
+    if search.is_entry_done(from, d) {
+        return Ok(());
+    }
+    search.reach_entry(from, d, &entry_of(net.cell(d)))
 }
 
 /// The hull of a cell's entry.

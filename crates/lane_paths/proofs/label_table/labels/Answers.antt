@@ -1,16 +1,18 @@
-use Rattle.std.proofs.Common.{◌+◌, length, ap, ◌∙◌, sym, subst}
+use Rattle.std.proofs.Common.{sym, subst}
 use Rattle.std.specs.List.{AllByRecursion}
-use Rattle.lane_paths.specs.Reaches.{IsEdgeWithin}
-use Rattle.lane_paths.proofs.LabelLaws.{labels_written}
-use Rattle.lane_paths.proofs.LinkLaws.{links_within}
+use Rattle.spot_terms.specs.Lists.{Includes}
+use Rattle.spot_terms.specs.Routes.{IsStartCell}
+use Rattle.spot_terms.proofs.ListLemmas.{all_of}
+use Rattle.lane_paths.proofs.LabelLaws.{begun_places, search_labels}
 use Rattle.lane_paths.proofs.label_table.labels.Goals as goal
 
-pub settle-requires : goal.settle-requires
-settle-requires c = subst (λ edges. AllByRecursion (IsEdgeWithin (length c.deref_mut.result.now)) edges) (sym c.deref-2.ensures.value)
-    (links_within c.args.net.now c.args.start c.in_ok-edges.edges.items (length c.deref_mut.result.now)
-    (ap length c.deref_mut.ensures.value ∙ c.in_ok-lengths.ensures.count ∙ ap (λ n. n + n + 1) c.len-count.ensures) c.in_ok-edges.ensures)
+pub spread_start-requires-clause-places : goal.spread_start-requires-clause-places
+spread_start-requires-clause-places c = begun_places c.args.net.now c.len.result c.in_ok-search.search c.in_ok-search.ensures.count c.len.ensures c.in_ok-search.ensures.lengths c.in_ok-search.ensures.pending
+
+pub spread_start-requires-clause-starts : goal.spread_start-requires-clause-starts
+spread_start-requires-clause-starts c = subst (λ starts. AllByRecursion (IsStartCell c.args.net.now c.args.start) starts) (sym c.list.ensures) (all_of (IsStartCell c.args.net.now c.args.start) c.in_ok-starts.starts c.in_ok-starts.ensures.each)
 
 pub returns : goal.returns
-returns c = labels_written c.args.net.now c.args.start c.args.limit c.len-count.result c.in_ok-lengths.lengths.len c.in_ok-edges.edges.items c.deref-2.result.now c.in_ok-lengths.lengths.items c.deref_mut.result.now c.settle.new.lengths
-    c.truncate.new.self.items c.deref-2.ensures.value c.deref_mut.ensures.value c.len-count.ensures c.in_ok-lengths.lengths.ok.0 c.in_ok-edges.ensures c.in_ok-lengths.ensures c.settle.ensures.made c.settle.ensures.settled
-    c.settle.auto.lengths c.truncate.ensures.items
+returns c = search_labels c.args.net.now c.args.start c.args.limit c.len.result c.list.result.now c.in_ok-search.search c.spread_start.new.search c.spread_all.new.search c.into_labels.result.items
+    c.in_ok-search.ensures.count c.len.ensures c.in_ok-search.ensures.limit c.in_ok-search.ensures.lengths c.in_ok-search.ensures.pending (λ s k. subst (λ starts. Includes starts s) (sym c.list.ensures) (c.in_ok-starts.ensures.all s k))
+    c.in_ok-spread_start.ensures.spreads c.in_ok-spread_all.ensures.settled c.in_ok-spread_all.ensures.places c.into_labels.ensures

@@ -1,0 +1,13 @@
+use Rattle.std.proofs.Common.{◌<◌, length, refl, arith}
+use Rattle.lane_paths.proofs.PendingLists.{end_step}
+use Rattle.lane_paths.proofs.SpreadLaws.{step_less, step_none}
+use Rattle.lane_paths.proofs.search.Search.reach_end.Goals as goal
+
+pub returns-in-Some : goal.returns-in-Some
+returns-in-Some c = λ i.
+    let less = c.in-Some.ensures.some in
+    let inside : c.args.c < length c.args.self.now.lengths.items = omega (arith, c.requires.within, c.requires.many) in
+    step_less i c.args.c c.args.from.now.way c.in-Some.n less.gap c.args.from.now.shape c.args.shape.now c.args.self.now _ (end_step c.args.c c.in-Some.n c.args.self.now _ c.requires.within refl refl refl refl) inside less.gap_is less.sum less.low less.above
+
+pub returns-in_default : goal.returns-in_default
+returns-in_default c = λ i. step_none i c.args.c c.args.from.now.way c.args.from.now.shape c.args.shape.now c.args.self.now c.in_default.ensures.none

@@ -1,0 +1,156 @@
+//! Lengths of waypoints, lowered from the start on. Of n cells, number c is the hull of cell c, where a route ends, n + d is
+//! the entry of cell d, and 2n is the start.
+
+ghost use Rattle.std.specs.Prelude.{◌≡◌, ◌↔◌, ◌+◌, ◌<◌, ℕ, [], length, slice_get, take, Some, IfNone, IfOk, IfSome, IsTrue, OnOk};
+ghost use Rattle.lane_paths.specs.Reaches.{AreFirst, HasAtMost};
+ghost use Rattle.lane_paths.specs.Searches.{IsDone, IsLesser, IsNotLesser, Spreads, StepsTo};
+
+use crate::gaps::gap;
+use crate::pending::Pending;
+use convex_poly::Poly;
+use std::alloc::{AllocError, Global};
+
+/// A waypoint with a cell in which it can be left, the length of the way to it, and its hull.
+#[derive(Drop)]
+pub(crate) struct Waypoint {
+    pub(crate) cell: u32,
+    pub(crate) way: u64,
+    pub(crate) shape: Poly,
+}
+
+/// The lengths of the waypoints of so many cells, by their numbers, up to a limit, and the cells whose entries are still
+/// to be gone on from.
+#[derive(Drop)]
+pub(crate) struct Search {
+    pub(crate) count: u32,
+    pub(crate) limit: u64,
+    pub(crate) lengths: Vec<Option<u64>>,
+    pub(crate) pending: Pending,
+}
+
+impl Search {
+    /// Only the start has a length, 0.
+    pub(crate) fn new(alloc: Global, count: u32, limit: u64) -> Result<Search, AllocError>
+        ensures count { IfOk result (λ s. s.count ≡ count) }
+        ensures limit { IfOk result (λ s. s.limit ≡ limit) }
+        ensures lengths { IfOk result (λ s. AreFirst count s.lengths.items) }
+        ensures pending { IfOk result (λ s. s.pending ≡ []) }
+    {
+        Ok(Search {
+            count,
+            limit,
+            lengths: first_lengths(alloc, count)?,
+            pending: Pending::new(alloc),
+        })
+    }
+
+    // Whether the waypoint with this number has a length that is at most `n`.
+    fn has_at_most(&self, number: usize, n: u64) -> bool
+        requires { number < length self.now.lengths.items }
+        ensures { IsTrue result ↔ HasAtMost self.now.lengths.items number n }
+    {
+        match self.lengths[number] {
+            Some(k) => k <= n,
+            None => false,
+        }
+    }
+
+    /// Whether the entry of a cell has this length.
+    pub(crate) fn is_current(&self, way: u64, d: u32) -> bool
+        requires within { d < self.now.count }
+        requires many { length self.now.lengths.items ≡ self.now.count + self.now.count + 1 }
+        ensures { IsTrue result ↔ (slice_get self.now.lengths.items (self.now.count + d) ≡ Some (Some way)) }
+    {
+        match self.lengths[self.count as usize + d as usize] {
+            Some(k) => k == way,
+            None => false,
+        }
+    }
+
+    // Whether the waypoint with this number has no greater length than another, or that is above the limit, so that no way
+    // by that one is to be kept, however near it is.
+    fn is_done(&self, from: &Waypoint, to: usize) -> bool
+        requires { to < length self.now.lengths.items }
+        ensures { IsTrue result ↔ IsDone self.now from.now to }
+    {
+        from.way > self.limit || self.has_at_most(to, from.way)
+    }
+
+    /// Whether the entry of a cell has no greater length than a waypoint, or that is above the limit, so that there is no
+    /// need to go from it to the entry, however near it is.
+    pub(crate) fn is_entry_done(&self, from: &Waypoint, d: u32) -> bool
+        requires within { d < self.now.count }
+        requires many { length self.now.lengths.items ≡ self.now.count + self.now.count + 1 }
+        ensures { IsTrue result ↔ IsDone self.now from.now (self.now.count + d) }
+    {
+        self.is_done(from, self.count as usize + d as usize)
+    }
+
+    // The length of a waypoint with this number and hull by way of another, where that is within the limit and less than
+    // the one that it has.
+    fn lesser(&self, from: &Waypoint, to: usize, shape: &Poly) -> Option<u64>
+        requires { to < length self.now.lengths.items }
+        ensures some { IfSome result (IsLesser self.now from.now to shape.now) }
+        ensures none { IfNone result (IsNotLesser self.now from.now to shape.now) }
+    {
+        if self.is_done(from, to) {
+            return None;
+        }
+        let further = gap(&from.shape, shape);
+        if further > self.limit - from.way || self.has_at_most(to, from.way + further) {
+            return None;
+        }
+        Some(from.way + further)
+    }
+
+    /// Goes from a waypoint to the hull of a cell, where a route ends.
+    pub(crate) fn reach_end(&mut self, from: &Waypoint, c: u32, shape: &Poly)
+        requires within { c < self.old.count }
+        requires many { length self.old.lengths.items ≡ self.old.count + self.old.count + 1 }
+        ensures { (i : ℕ) → Spreads (StepsTo i c from.now.shape shape.now) from.now.way self.old self.new }
+    {
+        if let Some(n) = self.lesser(from, c as usize, shape) {
+            self.lengths[c as usize] = Some(n);
+        }
+    }
+
+    /// Goes from a waypoint to the entry of a cell.
+    pub(crate) fn reach_entry(
+        &mut self,
+        from: &Waypoint,
+        d: u32,
+        shape: &Poly,
+    ) -> Result<(), AllocError>
+        requires within { d < self.old.count }
+        requires many { length self.old.lengths.items ≡ self.old.count + self.old.count + 1 }
+        ensures { OnOk result ((i : ℕ) → Spreads (StepsTo i (self.old.count + d) from.now.shape shape.now) from.now.way self.old self.new) }
+    {
+        let number = self.count as usize + d as usize;
+        if let Some(n) = self.lesser(from, number, shape) {
+            self.lengths[number] = Some(n);
+            self.pending.push(n, d)?;
+        }
+        Ok(())
+    }
+
+    /// The lengths of the hulls of the cells.
+    pub(crate) fn into_labels(mut self) -> Vec<Option<u64>>
+        ensures { result.items ≡ take self.count self.lengths.items }
+    {
+        self.lengths.truncate(self.count as usize);
+        self.lengths
+    }
+}
+
+// The lengths of the waypoints of `count` cells to begin with: only the start, which is the last, has one.
+fn first_lengths(alloc: Global, count: u32) -> Result<Vec<Option<u64>>, AllocError>
+    ensures { IfOk result (λ lengths. AreFirst count lengths.items) }
+{
+    let before = 2 * count as usize;
+    let mut lengths = Vec::with_capacity(alloc, before + 1)?;
+    for _ in 0..before {
+        lengths.push(None)?;
+    }
+    lengths.push(Some(0))?;
+    Ok(lengths)
+}
