@@ -1,3 +1,5 @@
 pub mod Octagons
+pub mod OneNumber
+pub mod Outsets
 pub mod Starts
 pub mod Types

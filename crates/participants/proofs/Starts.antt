@@ -3,11 +3,13 @@ use Rattle.std.proofs.Common.{◌≡◌, ◌≢◌, ◌∙◌, ℕ, ◌+◌, ◌
 use Rattle.std.proofs.lemmas.Bool.Decides.{nat_tests}
 use Rattle.std.proofs.lemmas.List.Elements.{filter-append}
 use Rattle.std.proofs.lemmas.List.{take_more}
-use Rattle.spot_terms.specs.Lists.{Pairwise}
+use Rattle.spot_terms.specs.Cells.{Lane}
+use Rattle.spot_terms.specs.Participants.{starting, ReachesCells}
 use Rattle.spot_terms.specs.declared.scenario.Mover.{Mover}
 use Rattle.spot_terms.proofs.ListLemmas.{pairwise_push}
 use Rattle.participants.specs.declared.participant.Participant.{Participant}
-use Rattle.participants.specs.Predictions.{IsParticipant, starting}
+use Rattle.participants.specs.Outsets.{AreGathered, IsHolding}
+use Rattle.participants.proofs.OneNumber.{pairs_push}
 
 at_zero : (n : ℕ) → n ≡ 0 → (n == 0) ≡ true
 at_zero n h = grind (arith, nat_tests)
@@ -23,16 +25,40 @@ starting_more ms m h = let t : (m.time == 0) ≡ true = at_zero m.time h in filt
 pub starting_same : (ms : List Mover) (m : Mover) → m.time ≢ 0 → starting (ms ++ m ∷ []) ≡ starting ms
 starting_same ms m h = let t : (m.time == 0) ≡ false = not_at_zero m.time h in filter-append (λ (x : Mover). x.time == 0) ms (m ∷ []) ∙ rw t (append-nil (starting ms))
 
--- one more obstacle of a list, which is a participant
-pub starts_more : (k steps : ℕ) (items movers : List Mover) (i : ℕ) (m : Mover) (ps : List Participant) (p : Participant) → items ≡ movers → i < length items → m ≡ get_or items i m → m.time ≡ 0
-    → Pairwise (IsParticipant k steps) (starting (take i movers)) ps → IsParticipant k steps m p → Pairwise (IsParticipant k steps) (starting (take (i + 1) movers)) (ps ++ p ∷ [])
-starts_more k steps items movers i m ps p same below item zero pairs one =
-    let front : take (i + 1) movers ≡ take i movers ++ m ∷ [] = subst (λ (xs : List Mover). take (i + 1) xs ≡ take i xs ++ m ∷ []) same (take_more items i m below ∙ ap (λ (x : Mover). take i items ++ x ∷ []) (sym item)) in
-    rw (front, starting_more (take i movers) m zero) (pairwise_push (IsParticipant k steps) (starting (take i movers)) ps m p pairs one)
+taken_longer : (items movers : List Mover) (i : ℕ) (m : Mover) → items ≡ movers → i < length items → m ≡ get_or items i m → take (i + 1) movers ≡ take i movers ++ m ∷ []
+taken_longer items movers i m same below item =
+    subst (λ (xs : List Mover). take (i + 1) xs ≡ take i xs ++ m ∷ []) same (take_more items i m below ∙ ap (λ (x : Mover). take i items ++ x ∷ []) (sym item))
 
--- one more obstacle of a list, which isn't
-pub starts_same : (k steps : ℕ) (items movers : List Mover) (i : ℕ) (m : Mover) (ps : List Participant) → items ≡ movers → i < length items → m ≡ get_or items i m → m.time ≢ 0
-    → Pairwise (IsParticipant k steps) (starting (take i movers)) ps → Pairwise (IsParticipant k steps) (starting (take (i + 1) movers)) ps
-starts_same k steps items movers i m ps same below item late pairs =
-    let front : take (i + 1) movers ≡ take i movers ++ m ∷ [] = subst (λ (xs : List Mover). take (i + 1) xs ≡ take i xs ++ m ∷ []) same (take_more items i m below ∙ ap (λ (x : Mover). take i items ++ x ∷ []) (sym item)) in
-    rw (front, starting_same (take i movers) m late) pairs
+-- the list is one longer by an obstacle that starts at time 0
+starting_longer : (items movers : List Mover) (i : ℕ) (m : Mover) → items ≡ movers → i < length items → m ≡ get_or items i m → m.time ≡ 0
+    → starting (take (i + 1) movers) ≡ starting (take i movers) ++ m ∷ []
+starting_longer items movers i m same below item zero = ap starting (taken_longer items movers i m same below item) ∙ starting_more (take i movers) m zero
+
+-- one more obstacle, which doesn't start at time 0
+pub gathered_same : (lanes : List Lane) (k steps : ℕ) (items movers : List Mover) (i : ℕ) (m : Mover) (pairs : ℕ) (ps : List Participant) → items ≡ movers → i < length items → m ≡ get_or items i m → m.time ≢ 0
+    → AreGathered lanes k steps (starting (take i movers)) pairs ps → AreGathered lanes k steps (starting (take (i + 1) movers)) pairs ps
+gathered_same lanes k steps items movers i m pairs ps same below item late gathered =
+    let longer : starting (take (i + 1) movers) ≡ starting (take i movers) = ap starting (taken_longer items movers i m same below item) ∙ starting_same (take i movers) m late in
+    subst (λ (ms : List Mover). AreGathered lanes k steps ms pairs ps) (sym longer) gathered
+
+-- one more obstacle, which is made a participant
+pub gathered_more : (lanes : List Lane) (k steps : ℕ) (items movers : List Mover) (i : ℕ) (m : Mover) (pairs count : ℕ) (ps : List Participant) (p : Participant) → items ≡ movers → i < length items → m ≡ get_or items i m → m.time ≡ 0
+    → AreGathered lanes k steps (starting (take i movers)) pairs ps → ReachesCells lanes k steps m count → IsHolding lanes k steps m p
+    → AreGathered lanes k steps (starting (take (i + 1) movers)) (pairs + count) (ps ++ p ∷ [])
+gathered_more lanes k steps items movers i m pairs count ps p same below item zero gathered reaches holding =
+    let made : AreGathered lanes k steps (starting (take i movers) ++ m ∷ []) (pairs + count) (ps ++ p ∷ []) = record {
+      sum = pairs_push lanes k steps (starting (take i movers)) m pairs count gathered.sum reaches;
+      few = λ h. pairwise_push (IsHolding lanes k steps) (starting (take i movers)) ps m p (gathered.few (omega arith)) holding;
+    } in
+    subst (λ (ms : List Mover). AreGathered lanes k steps ms (pairs + count) (ps ++ p ∷ [])) (sym (starting_longer items movers i m same below item zero)) made
+
+-- one more obstacle, with which there are too many pairs
+pub gathered_full : (lanes : List Lane) (k steps : ℕ) (items movers : List Mover) (i : ℕ) (m : Mover) (pairs count : ℕ) (ps : List Participant) → items ≡ movers → i < length items → m ≡ get_or items i m → m.time ≡ 0
+    → AreGathered lanes k steps (starting (take i movers)) pairs ps → ReachesCells lanes k steps m count → 262_144 < pairs + count
+    → AreGathered lanes k steps (starting (take (i + 1) movers)) (pairs + count) ps
+gathered_full lanes k steps items movers i m pairs count ps same below item zero gathered reaches many =
+    let made : AreGathered lanes k steps (starting (take i movers) ++ m ∷ []) (pairs + count) ps = record {
+      sum = pairs_push lanes k steps (starting (take i movers)) m pairs count gathered.sum reaches;
+      few = λ h. absurd (omega arith);
+    } in
+    subst (λ (ms : List Mover). AreGathered lanes k steps ms (pairs + count) ps) (sym (starting_longer items movers i m same below item zero)) made

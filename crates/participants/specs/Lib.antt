@@ -1,2 +1,3 @@
 -- What a prediction has of a scenario.
+pub mod Outsets
 pub mod Predictions

@@ -1,8 +1,9 @@
 -- What a prediction has of a scenario.
-use Rattle.std.specs.Prelude.{◌≡◌, ℕ, ◌==◌, max, List, [], ◌∷◌, filter, map, ℤ, pos, ◌+ℤ◌, ◌-ℤ◌}
+use Rattle.std.specs.Prelude.{◌≡◌, ◌↔◌, ℕ, ◌<◌, List, [], ◌∷◌, map, true, false, IsTrue, ℤ, pos, ◌+ℤ◌, ◌-ℤ◌}
+use Rattle.spot_terms.specs.Cells.{Lane}
+use Rattle.spot_terms.specs.LanePolygons.{AreLanePolygons}
 use Rattle.spot_terms.specs.Lists.{Pairwise, numbers_below}
-use Rattle.spot_terms.specs.Directions.{start_box}
-use Rattle.spot_terms.specs.Motions.{IsStartSpeed}
+use Rattle.spot_terms.specs.Participants.{starting, IsStartOf, FollowsLanes, HasPairs, PairsSumTo}
 use Rattle.spot_terms.specs.Ranges.{IsStart}
 use Rattle.spot_terms.specs.Reach.{interval_numbers, disc_numbers}
 use Rattle.spot_terms.specs.Types.{TypeRow, HasType}
@@ -13,37 +14,33 @@ use Rattle.spot_terms.specs.declared.scenario.Mover.{Mover}
 use Rattle.spot_terms.specs.declared.scenario.Fixed.{Fixed}
 use Rattle.spot_terms.specs.declared.scenario.Scenario.{Scenario}
 use Rattle.convex_poly.specs.declared.oct_numbers.OctNumbers.{OctNumbers}
+use Rattle.lane_occupancy.specs.Laws.{HoldsLaneBodies}
+use Rattle.lane_occupancy.specs.Polygons.{polygon_of}
 use Rattle.participants.specs.declared.bounds.TypeBounds.{TypeBounds}
 use Rattle.participants.specs.declared.participant.Participant.{Participant}
+use Rattle.participants.specs.declared.prediction.PredictFault.{PredictFault}
+use Rattle.participants.specs.declared.prediction.PredictFault.TheVariants.{TooManyLanePolygons, Memory}
 
--- the bounds are those of the type's row
+-- the bounds are those of the type's row, and so is whether it follows lanes
 pub record HasBounds (kind : Kind) (bounds : TypeBounds) : Type 0 where
   pub type : TypeRow
   pub type_is : HasType kind type
   pub a : bounds.a ≡ pos type.a
   pub v : bounds.v ≡ type.v
+  pub lane : bounds.follows_lanes ≡ type.follows_lanes
 
 -- the octagons of the intervals below `steps`
 abbrev pub AreOctagons : AccStart → ℕ → ℕ → List OctNumbers → Type 0
 AreOctagons s k steps octagons = map (λ o. o.n) octagons ≡ map (interval_numbers s k) (numbers_below steps)
 
--- the start of an obstacle: its position, the box of its start velocities, its type's bounds, of which the start speed
--- may raise the speed, and its radius
-pub record IsStartOf (m : Mover) (s : AccStart) (speed : ℕ) : Type 0 where
-  pub x : s.p.x ≡ m.x
-  pub y : s.p.y ≡ m.y
-  pub b : s.b ≡ start_box m.speed m.angle
-  pub speed_is : IsStartSpeed s.b speed
-  pub type : TypeRow
-  pub type_is : HasType m.kind type
-  pub a : s.a ≡ pos type.a
-  pub v : s.v ≡ pos (max type.v speed)
-  pub r : s.r ≡ m.enclosing
-
-pub record IsParticipant (k steps : ℕ) (m : Mover) (p : Participant) : Type 0 where
+-- a participant, with its octagons, and where it follows lanes with its lane polygons
+pub record IsParticipant (lanes : List Lane) (k steps : ℕ) (m : Mover) (p : Participant) : Type 0 where
   pub id : p.id ≡ m.id
   pub start : IsStartOf m p.start p.speed
   pub range : IsStart p.start
+  pub lane : IsTrue p.lane ↔ FollowsLanes lanes m
+  pub polygons : p.lane ≡ true → AreLanePolygons lanes p.start p.speed k steps (map polygon_of p.polys)
+  pub free : p.lane ≡ false → p.polys ≡ []
   pub octagons : AreOctagons p.start k steps p.octs
 
 abbrev pub IsFixedOctagon : Fixed → ℕ × OctNumbers → Type 0
@@ -53,10 +50,6 @@ IsFixedOctagon f o = (o.0 ≡ f.id) × (o.1.n ≡ disc_numbers (record { x = f.x
 abbrev pub numbers_about : Pt → ℤ → ℤ → List ℤ
 numbers_about p axis diagonal = (p.x +ℤ axis) ∷ (p.x +ℤ p.y +ℤ diagonal) ∷ (p.y +ℤ axis) ∷ (diagonal -ℤ (p.x -ℤ p.y)) ∷ (axis -ℤ p.x) ∷ (diagonal -ℤ (p.x +ℤ p.y)) ∷ (axis -ℤ p.y) ∷ (p.x -ℤ p.y +ℤ diagonal) ∷ []
 
--- the dynamic obstacles whose initial time is 0
-abbrev pub starting : List Mover → List Mover
-starting movers = filter (λ m. m.time == 0) movers
-
 -- what a prediction shows
 pub record Occupancies : Type 0 where
   pub participants : List Participant
@@ -65,5 +58,19 @@ pub record Occupancies : Type 0 where
 -- each dynamic obstacle whose initial time is 0 is a participant, and each static obstacle has its octagon, both in
 -- document order
 pub record IsPrediction (s : Scenario) (steps : ℕ) (p : Occupancies) : Type 0 where
-  pub participants : Pairwise (IsParticipant s.step steps) (starting s.movers) p.participants
+  pub participants : Pairwise (IsParticipant s.lanelets.entries s.step steps) (starting s.movers) p.participants
   pub fixed : Pairwise IsFixedOctagon s.fixed p.fixed
+
+-- each whole point of the body of each lane motion of the participant lies, at each tick of an interval, in one of its
+-- polygons that is reached by then
+abbrev pub HoldsMotions : List Lane → ℕ → ℕ → Participant → Type 0
+HoldsMotions lanes k steps p = p.lane ≡ true → HoldsLaneBodies lanes p.start p.speed k steps (map polygon_of p.polys)
+
+-- the number of all lane polygons, which are too many; want of memory may come at any time
+abbrev pub IsPredictFault : Scenario → ℕ → PredictFault → Type 0
+IsPredictFault s steps (TooManyLanePolygons n) = HasPairs s steps n × (262_144 < n)
+IsPredictFault s steps Memory = Unit {0}
+
+-- a scenario has one such number at most
+abbrev pub PairsAreOne : Type 0
+PairsAreOne = (lanes : List Lane) (k steps : ℕ) (movers : List Mover) (n m : ℕ) → PairsSumTo lanes k steps movers n → PairsSumTo lanes k steps movers m → n ≡ m

@@ -1,14 +1,16 @@
 //! A participant: where it starts, and its octagons.
 
 ghost use Rattle.std.specs.Prelude.{◌≡◌, ◌≤◌, IfOk};
-ghost use Rattle.spot_terms.specs.Ranges.{IsStart, IsMoverInRange};
-ghost use Rattle.participants.specs.Predictions.{AreOctagons, IsStartOf, IsParticipant};
+ghost use Rattle.spot_terms.specs.Ranges.{IsStart};
+ghost use Rattle.participants.specs.Outsets.{HasLabels, HasPolygons, IsOutset, IsHolding};
+ghost use Rattle.participants.specs.Predictions.{AreOctagons};
 
-use crate::bounds::bounds_of;
+use crate::outset::{Outset, Start};
 use acc_occupancy::AccRun;
 use convex_poly::OctNumbers;
-use heading::{start_speed, velocity_box};
-use spot_terms::{AccStart, Mover, Pt};
+use lane_occupancy::{LanePolys, lane_polys};
+use lanelets::Network;
+use spot_terms::{AccStart, Mover};
 use std::alloc::{AllocError, Global};
 use std::marker::Model;
 
@@ -43,13 +45,18 @@ impl OctList {
     }
 }
 
-/// A participant: a dynamic obstacle whose initial time is 0. `speed` is its start speed in mm/s, and `octs` has its
-/// octagon for each interval.
+/// A participant: a dynamic obstacle whose initial time is 0.
 #[derive(Drop)]
 pub struct Participant {
     pub id: u32,
     pub start: AccStart,
+    /// The start speed in mm/s.
     pub speed: u64,
+    /// Whether it follows lanes.
+    pub lane: bool,
+    /// Where it follows lanes, its lane polygons by cell number, and else none.
+    pub polys: LanePolys,
+    /// Its octagon for each interval.
     pub octs: OctList,
 }
 
@@ -68,51 +75,50 @@ fn octagons(alloc: Global, s: &AccStart, k: u32, steps: u32) -> Result<OctList, 
     Ok(OctList::from_vec(items))
 }
 
-/// Where an obstacle starts, and its start speed.
-#[derive(Clone, Copy)]
-pub struct Start {
-    pub start: AccStart,
-    pub speed: u64,
-}
-
-fn start_of(m: &Mover) -> Start
-    requires { IsMoverInRange m.now }
-    ensures exact { IsStartOf m.now result.start result.speed }
-    ensures range { IsStart result.start }
+// The lane polygons of a participant that follows lanes, and none of one that is free.
+fn polygons(
+    alloc: Global,
+    net: &Network,
+    outset: &Outset,
+    k: u32,
+    steps: u32,
+) -> Result<LanePolys, AllocError>
+    requires start { IsStart outset.now.start.start }
+    requires labels { HasLabels net.now k steps outset.now.start.start outset.now.labels }
+    requires ticks { (1 ≤ k) × (k ≤ 1000) }
+    requires steps { steps ≤ 100 }
+    ensures { IfOk result (λ polys. HasPolygons net.now k steps outset.now.start.start outset.now.labels polys) }
 {
-    let b = velocity_box(m.speed, m.angle);
-    let speed = start_speed(&b);
-    let bounds = bounds_of(m.kind);
-    Start {
-        start: AccStart {
-            p: Pt { x: m.x, y: m.y },
-            b,
-            a: bounds.a,
-            v: bounds.v.max(speed) as i64,
-            r: m.enclosing,
-        },
-        speed,
+    match &outset.labels {
+        Some(labels) => lane_polys(alloc, net, labels, &outset.start.start, k, steps),
+        None => Ok(LanePolys::from_vec(Vec::new(alloc))),
     }
 }
 
-/// The participant that a dynamic obstacle is, with its octagons for so many intervals of `k` ticks.
+/// The participant that a dynamic obstacle is, with its occupancies in so many intervals of `k` ticks. The only error is
+/// want of memory.
 pub fn participant_of(
     alloc: Global,
+    net: &Network,
     m: &Mover,
+    outset: &Outset,
     k: u32,
     steps: u32,
 ) -> Result<Participant, AllocError>
-    requires mover { IsMoverInRange m.now }
+    requires outset { IsOutset net.now k steps m.now outset.now }
     requires ticks { (1 ≤ k) × (k ≤ 1000) }
     requires steps { steps ≤ 100 }
-    ensures { IfOk result (λ p. IsParticipant k steps m.now p) }
+    ensures { IfOk result (λ p. IsHolding net.now k steps m.now p) }
 {
-    let Start { start, speed } = start_of(m);
+    let Start { start, speed } = outset.start;
     let octs = octagons(alloc, &start, k, steps)?;
+    let polys = polygons(alloc, net, outset, k, steps)?;
     Ok(Participant {
         id: m.id,
         start,
         speed,
+        lane: outset.labels.is_some(),
+        polys,
         octs,
     })
 }

@@ -1,14 +1,19 @@
 //! The prediction of a scenario.
 
-ghost use Rattle.std.specs.Prelude.{◌≡◌, ◌<◌, ◌≤◌, pos, IfOk, IfErr};
+ghost use Rattle.std.specs.Prelude.{◌≡◌, ◌<◌, ◌≤◌, ℕ, pos, IfOk, IfErr};
+ghost use Rattle.std.specs.List.{AllByRecursion};
+ghost use Rattle.spot_terms.specs.Participants.{starting, HasPairs};
 ghost use Rattle.spot_terms.specs.Ranges.{IsInRange, IsFixedInRange};
 ghost use Rattle.spot_terms.specs.Whole.{SizeAtMost};
 ghost use Rattle.spot_terms.specs.Reach.{normal_at, disc_numbers, disc_number as disc_number_of};
 ghost use Rattle.spot_terms.specs.Lists.{Pairwise};
-ghost use Rattle.participants.specs.Predictions.{IsParticipant, IsFixedOctagon, IsPrediction, starting, numbers_about};
+ghost use Rattle.participants.specs.Outsets.{AreGathered};
+ghost use Rattle.participants.specs.Predictions.{HoldsMotions, IsFixedOctagon, IsPredictFault, IsPrediction, PairsAreOne, numbers_about};
 
+use crate::outset::outset_of;
 use crate::participant::{Participant, participant_of};
 use convex_poly::OctNumbers;
+use lanelets::Network;
 use round_out::disc_number;
 use spot_terms::{Fixed, Pt, Scenario};
 use std::alloc::{AllocError, Global};
@@ -24,6 +29,9 @@ pub enum PredictFault {
     #[error("out of memory")]
     Memory,
 }
+
+/// How many pairs of a participant and a lane polygon a prediction may have.
+const MOST_PAIRS: u64 = 262_144;
 
 /// The participants of a scenario and the octagons of its static obstacles, in document order.
 #[derive(Drop)]
@@ -99,18 +107,36 @@ fn octagon_of(f: &Fixed) -> OctNumbers
     octagon_about(center, reach_of(0, f.enclosing), reach_of(1, f.enclosing))
 }
 
-fn participants_of(alloc: Global, s: &Scenario, steps: u32) -> Result<Vec<Participant>, AllocError>
+/// What is gathered of the obstacles that start at time 0: the number of the pairs of one of them and a lane polygon, and
+/// the participants that they are, where there aren't too many pairs.
+#[derive(Drop)]
+struct Gathered {
+    pairs: u64,
+    participants: Vec<Participant>,
+}
+
+// Goes once over the obstacles that start at time 0, as their labels take most of the time. From where there are too many
+// pairs on, no participant is made, and the pairs are only counted.
+fn gather(alloc: Global, s: &Scenario, net: &Network, steps: u32) -> Result<Gathered, AllocError>
     requires range { IsInRange s.now }
     requires steps { steps ≤ 100 }
-    ensures { IfOk result (λ list. Pairwise (IsParticipant s.now.step steps) (starting s.now.movers) list.items) }
+    ensures { IfOk result (λ g. AreGathered net.now s.now.step steps (starting s.now.movers) g.pairs g.participants.items) }
 {
+    let mut pairs: u64 = 0;
     let mut participants = Vec::new(alloc);
     for m in s.movers.list() {
         if m.time == 0 {
-            participants.push(participant_of(alloc, m, s.step, steps)?)?;
+            let outset = outset_of(alloc, net, m, s.step, steps)?;
+            pairs += u64::from(outset.count);
+            if pairs <= MOST_PAIRS {
+                participants.push(participant_of(alloc, net, m, &outset, s.step, steps)?)?;
+            }
         }
     }
-    Ok(participants)
+    Ok(Gathered {
+        pairs,
+        participants,
+    })
 }
 
 fn fixed_of(alloc: Global, s: &Scenario) -> Result<Vec<(u32, OctNumbers)>, AllocError>
@@ -124,20 +150,42 @@ fn fixed_of(alloc: Global, s: &Scenario) -> Result<Vec<(u32, OctNumbers)>, Alloc
     Ok(fixed)
 }
 
-/// Predicts where the participants of a scenario without lanelets may be, in each of so many intervals of its step.
+/// Predicts where the participants of a scenario may be, in each of so many intervals of its step. The network is that of
+/// the scenario's lanelets.
 ///
-/// The only fault is want of memory.
-pub fn predict(alloc: Global, s: &Scenario, steps: u32) -> Result<Prediction, PredictFault>
+/// `TooManyLanePolygons` comes exactly where the participants have more than 262,144 lane polygons together, and says how
+/// many; the only other fault is want of memory.
+pub fn predict(
+    alloc: Global,
+    s: &Scenario,
+    net: &Network,
+    steps: u32,
+) -> Result<Prediction, PredictFault>
     requires range { IsInRange s.now }
+    requires network { net.now ≡ s.now.lanelets.entries }
     requires steps { steps ≤ 100 }
     ensures ok { IfOk result (λ p. IsPrediction s.now steps p) }
-    ensures fault { IfErr result (λ fault. fault ≡ PredictFault.Memory) }
+    ensures few { IfOk result (λ p. (n : ℕ) → HasPairs s.now steps n → n ≤ 262_144) }
+    ensures holds { IfOk result (λ p. AllByRecursion (λ q. HoldsMotions s.now.lanelets.entries s.now.step steps q) p.participants) }
+    ensures fault { IfErr result (λ fault. IsPredictFault s.now steps fault) }
 {
-    match (participants_of(alloc, s, steps), fixed_of(alloc, s)) {
-        (Ok(participants), Ok(fixed)) => Ok(Prediction {
+    let Ok(gathered) = gather(alloc, s, net, steps) else {
+        return Err(PredictFault::Memory);
+    };
+    if gathered.pairs > MOST_PAIRS {
+        return Err(PredictFault::TooManyLanePolygons(gathered.pairs));
+    }
+    let participants = gathered.participants;
+    match fixed_of(alloc, s) {
+        Ok(fixed) => Ok(Prediction {
             participants,
             fixed,
         }),
-        _ => Err(PredictFault::Memory),
+        Err(_) => Err(PredictFault::Memory),
     }
 }
+
+/// A scenario has one number of pairs of a participant and a lane polygon.
+pub fn a_scenario_has_one_number_of_pairs()
+    ensures { PairsAreOne }
+{}
