@@ -8,8 +8,8 @@ mod writers;
 
 pub use spot_terms::{End, Mode, MoverLine};
 pub use writers::{
-    write_count, write_disc, write_end, write_fixed, write_head, write_late, write_mover,
-    write_occ, write_time,
+    write_count, write_disc, write_end, write_fixed, write_head, write_lane, write_late,
+    write_mover, write_occ, write_time,
 };
 
 #[cfg(test)]

@@ -2,10 +2,10 @@
 ghost use Rattle.std.specs.Prelude.{◌≡◌, ℕ, ◌+◌, ◌≤◌, length, OnOk, OnErr};
 ghost use Rattle.std.specs.Io.KnownBytes.{Appends};
 ghost use Rattle.spot_terms.specs.Causes.{HasCause, AppendsFront};
-ghost use Rattle.spot_terms.specs.Report.{line_text, mode_word, kind_word, head_line, time_line, mover_line, late_line, fixed_line, occ_line, disc_line, count_line, last_line};
+ghost use Rattle.spot_terms.specs.Report.{line_text, mode_word, kind_word, head_line, time_line, mover_line, late_line, fixed_line, lane_line, occ_line, disc_line, count_line, last_line};
 
 use crate::line_buffer::LineBuffer;
-use convex_poly::OctNumbers;
+use convex_poly::{OctNumbers, Poly};
 use spot_io::{Sink, SinkFault};
 use spot_terms::{End, Mode, MoverLine, Pt};
 
@@ -149,6 +149,44 @@ fn put_fixed(line: &mut LineBuffer, id: u32, body: &OctNumbers)
     line.start("fixed");
     line.number(id);
     line.numbers(&body.n);
+    line.end();
+}
+
+/// The line of a lane polygon: a participant's id, the number of the cell, the first interval that the cell is reached in,
+/// counted from 0, how many corners the polygon has, and each of them, in µm.
+///
+/// Answers `SinkFault` only where the sink's count of faults rose in this call; then a front of the line was appended.
+pub fn write_lane<K: Sink>(
+    sink: &mut K,
+    id: u32,
+    cell: u32,
+    first: u32,
+    p: &Poly,
+) -> Result<(), SinkFault>
+    requires { K.takes sink.old (length (line_text (lane_line id cell first p.now))) }
+    ensures ok { OnOk result (Appends (K.written sink.old) (K.written sink.new)
+        (line_text (lane_line id cell first p.now))) }
+    ensures err { OnErr result (AppendsFront (K.written sink.old) (K.written sink.new)
+        (line_text (lane_line id cell first p.now))) }
+    ensures room { OnOk result ((more : ℕ)
+        → K.takes sink.old (length (line_text (lane_line id cell first p.now)) + more) → K.takes sink.new more) }
+    ensures cause { HasCause (K.faults sink.old) (K.faults sink.new) result }
+{
+    let mut line = LineBuffer::new();
+    put_lane(&mut line, id, cell, first, p);
+    line.write(sink)
+}
+
+fn put_lane(line: &mut LineBuffer, id: u32, cell: u32, first: u32, p: &Poly)
+    ensures { line.new ≡ line_text (lane_line id cell first p.now) }
+{
+    let corners = p.corners();
+    line.start("lane");
+    line.number(id);
+    line.number(cell);
+    line.number(first);
+    line.number(corners.len());
+    line.points(corners);
     line.end();
 }
 
