@@ -1,44 +1,52 @@
 -- The lines of a prediction cover each admissible motion of each participant.
-use Rattle.std.proofs.Common.{◌≡◌, ◌∙◌, inl, inr, ℕ, zero, suc, add-zero, zero-add, ◌+◌, ◌==◌, ◌<◌, ◌^◌, true, false, cond, List, [], ◌∷◌, ◌++◌, map, refl, sym, ap, subst, arith, ℤ}
+use Rattle.std.proofs.Common.{◌≡◌, ◌∙◌, Some, inl, inr, ℕ, zero, suc, add-zero, zero-add, ◌+◌, ◌==◌, ◌<◌, ◌^◌, true, false, cond, List, [], ◌∷◌, ◌++◌, map, refl, sym, ap, subst, arith, ℤ}
 use Rattle.std.specs.List.{flat_map}
+use Rattle.std.specs.Prelude.{slice_get}
 use Rattle.std.proofs.lemmas.Bool.Decides.{nat_tests}
 use Rattle.spot_terms.specs.Lists.{Includes, Pairwise, numbers_from}
-use Rattle.spot_terms.specs.Motions.{InBox}
+use Rattle.spot_terms.specs.Cells.{Lane}
+use Rattle.spot_terms.specs.Bodies.{InDisc}
+use Rattle.spot_terms.specs.LanePolygons.{LanePolygon}
+use Rattle.spot_terms.specs.Motions.{State, InBox}
 use Rattle.spot_terms.specs.Ranges.{IsInRange, IsMoverInRange, IsFixedInRange}
 use Rattle.spot_terms.specs.Reach.{interval_numbers, disc_numbers}
-use Rattle.spot_terms.specs.Report.{Line, mover_line, late_line, fixed_line, occ_line}
+use Rattle.spot_terms.specs.Report.{Line, mover_line, late_line, fixed_line, lane_line, occ_line}
+use Rattle.spot_terms.specs.Participants.{starting}
 use Rattle.spot_terms.specs.declared.plain.Pt.{Pt}
 use Rattle.spot_terms.specs.declared.command.Command.{Command}
 use Rattle.spot_terms.specs.declared.scenario.Mover.{Mover}
 use Rattle.spot_terms.specs.declared.scenario.Fixed.{Fixed}
 use Rattle.spot_terms.specs.declared.scenario.Scenario.{Scenario}
 use Rattle.spot_terms.proofs.ListLemmas.{below-from, includes_front, includes_back, includes_map, includes_flat_map, includes_filter, all_included, partner}
+use Rattle.spot_terms.proofs.Members.{in_map}
 use Rattle.heading.proofs.Boxes.{box_holds}
+use Rattle.convex_poly.specs.declared.oct_numbers.OctNumbers.{OctNumbers}
 use Rattle.round_out.proofs.Discs.{disc_in_octagon}
 use Rattle.acc_occupancy.proofs.Bodies.{holds_bodies}
-use Rattle.spot_claims.specs.Headline.{pt, IsMoverLine, IsCovered, CoversParticipants}
-use Rattle.convex_poly.specs.declared.oct_numbers.OctNumbers.{OctNumbers}
+use Rattle.lane_occupancy.specs.Polygons.{polygon_of}
+use Rattle.spot_claims.specs.Headline.{pt, IsMoverLine, IsAdmissible, IsCovered, InPrintedLane, HoldsTick, CoversParticipants}
 use Rattle.participants.specs.declared.participant.Participant.{Participant}
-use Rattle.participants.specs.Predictions.{IsParticipant, IsFixedOctagon, starting, Occupancies, IsPrediction}
-use Rattle.spot_run.specs.Lines.{line_of, obstacle_lines, octagon_line, octagon_lines, occupancy_lines, traffic_lines, prediction_lines}
+use Rattle.participants.specs.Predictions.{IsParticipant, HoldsMotions, IsFixedOctagon, Occupancies}
+use Rattle.spot_run.specs.Writes.{IsPredicted}
+use Rattle.spot_run.specs.Lines.{line_of, obstacle_lines, octagon_line, octagon_lines, occupancy_lines, polygon_line, lane_lines, traffic_lines, prediction_lines}
 
 at_zero : (n : ℕ) → n ≡ 0 → (n == 0) ≡ true
 at_zero n h = grind (arith, nat_tests)
 
 -- ---- where lines stand
 
-abbrev pub Partners : ℕ → ℕ → List Mover → List Participant → Type 0
-Partners k steps ms ps = Pairwise (IsParticipant k steps) (starting ms) ps
+abbrev pub Partners : List Lane → ℕ → ℕ → List Mover → List Participant → Type 0
+Partners lanes k steps ms ps = Pairwise (IsParticipant lanes k steps) (starting ms) ps
 
 -- the line of each participant is among the obstacles'
-mover_listed : (k steps : ℕ) (ms : List Mover) (ps : List Participant) (p : Participant) → Partners k steps ms ps → Includes ps p → Includes (obstacle_lines ms ps) (mover_line (line_of p))
-mover_listed k steps [] [] p pairs i = i
-mover_listed k steps [] (q ∷ ps) p pairs i = pairs
-mover_listed k steps (m ∷ ms) [] p pairs i = absurd i
-mover_listed k steps (m ∷ ms) (q ∷ ps) p pairs i =
-    let later : Partners k steps ms ps → Includes ps p → Includes (obstacle_lines ms ps) (mover_line (line_of p)) = mover_listed k steps ms ps p in
-    let same : Partners k steps ms (q ∷ ps) → Includes (q ∷ ps) p → Includes (obstacle_lines ms (q ∷ ps)) (mover_line (line_of p)) = mover_listed k steps ms (q ∷ ps) p in
-    (elim (m.time == 0) as (λ t. Pairwise (IsParticipant k steps) (cond t (m ∷ starting ms) (starting ms)) (q ∷ ps) → Includes (q ∷ ps) p
+mover_listed : (lanes : List Lane) (k steps : ℕ) (ms : List Mover) (ps : List Participant) (p : Participant) → Partners lanes k steps ms ps → Includes ps p → Includes (obstacle_lines ms ps) (mover_line (line_of p))
+mover_listed lanes k steps [] [] p pairs i = i
+mover_listed lanes k steps [] (q ∷ ps) p pairs i = pairs
+mover_listed lanes k steps (m ∷ ms) [] p pairs i = absurd i
+mover_listed lanes k steps (m ∷ ms) (q ∷ ps) p pairs i =
+    let later : Partners lanes k steps ms ps → Includes ps p → Includes (obstacle_lines ms ps) (mover_line (line_of p)) = mover_listed lanes k steps ms ps p in
+    let same : Partners lanes k steps ms (q ∷ ps) → Includes (q ∷ ps) p → Includes (obstacle_lines ms (q ∷ ps)) (mover_line (line_of p)) = mover_listed lanes k steps ms (q ∷ ps) p in
+    (elim (m.time == 0) as (λ t. Pairwise (IsParticipant lanes k steps) (cond t (m ∷ starting ms) (starting ms)) (q ∷ ps) → Includes (q ∷ ps) p
     → Includes (cond t (mover_line (line_of q) ∷ obstacle_lines ms ps) (late_line m.id m.time ∷ obstacle_lines ms (q ∷ ps))) (mover_line (line_of p))) [
       | true ↦ λ pairs i. elim i as (λ _. Includes (mover_line (line_of q) ∷ obstacle_lines ms ps) (mover_line (line_of p))) [
         | inl e ↦ inl (ap (λ (x : Participant). mover_line (line_of x)) e)
@@ -60,14 +68,31 @@ octagon_listed id from (suc count) (suc i) f (o ∷ os) e h =
 in_front : (k steps : ℕ) (ms : List Mover) (o : Occupancies) (l : Line) → Includes (traffic_lines ms o) l → Includes (prediction_lines k steps ms o) l
 in_front k steps ms o l i = inr (inr (includes_front (traffic_lines ms o) _ l i))
 
+-- each part of the traffic is among the lines of a prediction
+module _ (k steps : ℕ) (ms : List Mover) (o : Occupancies) (l : Line) where
+  obstacle_stands : Includes (obstacle_lines ms o.participants) l → Includes (prediction_lines k steps ms o) l
+  obstacle_stands i = in_front k steps ms o l (includes_front (obstacle_lines ms o.participants ++ map octagon_line o.fixed ++ flat_map lane_lines o.participants) (flat_map occupancy_lines o.participants) l
+      (includes_front (obstacle_lines ms o.participants ++ map octagon_line o.fixed) (flat_map lane_lines o.participants) l (includes_front (obstacle_lines ms o.participants) (map octagon_line o.fixed) l i)))
+
+  octagon_stands : Includes (map octagon_line o.fixed) l → Includes (prediction_lines k steps ms o) l
+  octagon_stands i = in_front k steps ms o l (includes_front (obstacle_lines ms o.participants ++ map octagon_line o.fixed ++ flat_map lane_lines o.participants) (flat_map occupancy_lines o.participants) l
+      (includes_front (obstacle_lines ms o.participants ++ map octagon_line o.fixed) (flat_map lane_lines o.participants) l (includes_back (obstacle_lines ms o.participants) (map octagon_line o.fixed) l i)))
+
+  polygon_stands : Includes (flat_map lane_lines o.participants) l → Includes (prediction_lines k steps ms o) l
+  polygon_stands i = in_front k steps ms o l (includes_front (obstacle_lines ms o.participants ++ map octagon_line o.fixed ++ flat_map lane_lines o.participants) (flat_map occupancy_lines o.participants) l
+      (includes_back (obstacle_lines ms o.participants ++ map octagon_line o.fixed) (flat_map lane_lines o.participants) l i))
+
+  occupancy_stands : Includes (flat_map occupancy_lines o.participants) l → Includes (prediction_lines k steps ms o) l
+  occupancy_stands i = in_front k steps ms o l (includes_back (obstacle_lines ms o.participants ++ map octagon_line o.fixed ++ flat_map lane_lines o.participants) (flat_map occupancy_lines o.participants) l i)
+
 -- ---- the claim
 
 pub same_pt : (p : Pt) (x y : ℤ) → p.x ≡ x → p.y ≡ y → p ≡ pt x y
 same_pt p x y e f = let same : ◌≡◌ {A = Pt} (record { x = p.x; y = p.y }) (record { x = x; y = y }) = simp (e, f) in same
 
 -- the printed line of a participant is that of its obstacle
-is_mover_line : (k steps : ℕ) (m : Mover) (p : Participant) → IsMoverInRange m → IsParticipant k steps m p → IsMoverLine m (line_of p)
-is_mover_line k steps m p range is = record {
+is_mover_line : (lanes : List Lane) (k steps : ℕ) (m : Mover) (p : Participant) → IsMoverInRange m → IsParticipant lanes k steps m p → IsMoverLine m (line_of p)
+is_mover_line lanes k steps m p range is = record {
   id = is.id;
   p = same_pt p.start.p m.x m.y is.start.x is.start.y;
   r = is.start.r;
@@ -79,35 +104,51 @@ is_mover_line k steps m p range is = record {
   b = λ vx vy h. subst (λ b. InBox b (pt vx vy)) (sym is.start.b) (box_holds m.speed m.angle vx vy range.speed range.angle h);
 }
 
-covered : (s : Scenario) (c : Command) (o : Occupancies) (m : Mover) (p : Participant) → IsParticipant s.step c.steps m p → Includes o.participants p
-    → IsCovered s c (prediction_lines s.step c.steps s.movers o) (line_of p)
-covered s c o m p is i states motion t state at interval holds q disc = record {
-  free = refl;
+-- a participant that follows lanes is in a lane polygon that is printed for it
+in_lane : (s : Scenario) (c : Command) (o : Occupancies) (m : Mover) (p : Participant) → IsParticipant s.lanelets.entries s.step c.steps m p → Includes o.participants p → HoldsMotions s.lanelets.entries s.step c.steps p
+    → (states : List State) → IsAdmissible s m (line_of p) states → (t : ℕ) (state : State) → slice_get states t ≡ Some state → (interval : ℕ) → HoldsTick s.step c.steps interval t → (q : Pt) → InDisc p.start.r state.p q
+    → p.lane ≡ true → InPrintedLane (prediction_lines s.step c.steps s.movers o) p.id interval q
+in_lane s c o m p is i motions states admissible t state at interval holds q disc lane =
+    let (x, listed, early, inside) = motions lane states t interval state q (admissible.1 (is.lane.0 lane)) at holds.high holds.printed disc in
+    let (y, j, same) = in_map polygon_of p.polys x listed in (
+      x.cell,
+      x.first,
+      x.corners,
+      polygon_stands s.step c.steps s.movers o _
+          (includes_flat_map lane_lines o.participants p _ i (subst (λ (z : LanePolygon). Includes (lane_lines p) (lane_line p.id z.cell z.first z.corners)) (sym same) (includes_map (polygon_line p.id) p.polys y j))),
+      early,
+      inside,
+    )
+
+covered : (s : Scenario) (c : Command) (o : Occupancies) (m : Mover) (p : Participant) → IsParticipant s.lanelets.entries s.step c.steps m p → Includes o.participants p → HoldsMotions s.lanelets.entries s.step c.steps p
+    → IsCovered s c (prediction_lines s.step c.steps s.movers o) m (line_of p)
+covered s c o m p is i motions states admissible t state at interval holds q disc = record {
   numbers = interval_numbers p.start s.step interval;
-  octagon = in_front s.step c.steps s.movers o _ (includes_back (obstacle_lines s.movers o.participants ++ map octagon_line o.fixed) (flat_map occupancy_lines o.participants) _
-      (includes_flat_map occupancy_lines o.participants p _ i (rw zero-add at (octagon_listed p.id 0 c.steps interval (interval_numbers p.start s.step) p.octs (is.octagons ∙ ap (map (interval_numbers p.start s.step)) (below-from c.steps)) holds.printed))));
-  in_octagon = holds_bodies p.start s.step interval is.range states t state q motion at holds.low holds.high disc;
+  octagon = occupancy_stands s.step c.steps s.movers o _
+      (includes_flat_map occupancy_lines o.participants p _ i (rw zero-add at (octagon_listed p.id 0 c.steps interval (interval_numbers p.start s.step) p.octs (is.octagons ∙ ap (map (interval_numbers p.start s.step)) (below-from c.steps)) holds.printed)));
+  in_octagon = holds_bodies p.start s.step interval is.range states t state q admissible.0 at holds.low holds.high disc;
+  in_lane = in_lane s c o m p is i motions states admissible t state at interval holds q disc;
 }
 
 -- the lines of a prediction claim what they should
-pub prediction_covers : (s : Scenario) (c : Command) (o : Occupancies) → IsInRange s → IsPrediction s c.steps o → CoversParticipants s c (prediction_lines s.step c.steps s.movers o)
-prediction_covers s c o range is = record {
-  movers = λ m i zero.
-      let (p, j, one) = partner (IsParticipant s.step c.steps) (starting s.movers) o.participants m is.participants (includes_filter (λ (x : Mover). x.time == 0) s.movers m (at_zero m.time zero) i) in (
-        line_of p,
-        in_front s.step c.steps s.movers o _ (includes_front (obstacle_lines s.movers o.participants ++ map octagon_line o.fixed) (flat_map occupancy_lines o.participants) _
-            (includes_front (obstacle_lines s.movers o.participants) (map octagon_line o.fixed) _ (mover_listed s.step c.steps s.movers o.participants p is.participants j))),
-        is_mover_line s.step c.steps m p (all_included IsMoverInRange s.movers m range.movers i) one,
-        covered s c o m p one j,
-      );
-  fixed = λ f i.
-      let (n, j, one) = partner IsFixedOctagon s.fixed o.fixed f is.fixed i in (
-        disc_numbers (pt f.x f.y) f.enclosing,
-        in_front s.step c.steps s.movers o _ (includes_front (obstacle_lines s.movers o.participants ++ map octagon_line o.fixed) (flat_map occupancy_lines o.participants) _
-            (includes_back (obstacle_lines s.movers o.participants) (map octagon_line o.fixed) _ (subst (Includes (map octagon_line o.fixed)) (octagon_is f n one) (includes_map octagon_line o.fixed n j)))),
-        λ q disc. disc_in_octagon (pt f.x f.y) q f.enclosing (small f (all_included IsFixedInRange s.fixed f range.fixed i)) disc,
-      );
-}
+pub prediction_covers : (s : Scenario) (c : Command) (o : Occupancies) → IsInRange s → IsPredicted s c.steps o → CoversParticipants s c (prediction_lines s.step c.steps s.movers o)
+prediction_covers s c o range predicted =
+    let lanes = s.lanelets.entries in
+    let is = predicted.is in record {
+      movers = λ m i zero.
+          let (p, j, one) = partner (IsParticipant lanes s.step c.steps) (starting s.movers) o.participants m is.participants (includes_filter (λ (x : Mover). x.time == 0) s.movers m (at_zero m.time zero) i) in (
+            line_of p,
+            obstacle_stands s.step c.steps s.movers o _ (mover_listed lanes s.step c.steps s.movers o.participants p is.participants j),
+            is_mover_line lanes s.step c.steps m p (all_included IsMoverInRange s.movers m range.movers i) one,
+            covered s c o m p one j (all_included (HoldsMotions lanes s.step c.steps) o.participants p predicted.holds j),
+          );
+      fixed = λ f i.
+          let (n, j, one) = partner IsFixedOctagon s.fixed o.fixed f is.fixed i in (
+            disc_numbers (pt f.x f.y) f.enclosing,
+            octagon_stands s.step c.steps s.movers o _ (subst (Includes (map octagon_line o.fixed)) (octagon_is f n one) (includes_map octagon_line o.fixed n j)),
+            λ q disc. disc_in_octagon (pt f.x f.y) q f.enclosing (small f (all_included IsFixedInRange s.fixed f range.fixed i)) disc,
+          );
+    }
   where
     small : (f : Fixed) → IsFixedInRange f → f.enclosing < 2 ^ 63
     small f h = omega (arith, h.enclosing)

@@ -1,3 +1,4 @@
+pub mod CellSizes
 pub mod Covers
 pub mod Writing
 pub mod Obstacles
@@ -5,4 +6,5 @@ pub mod Reports
 pub mod Fits
 pub mod Sizes
 pub mod Runs
+pub mod Limits
 pub mod Refusals

@@ -3,10 +3,10 @@ use Rattle.std.proofs.Common.{◌≡◌, ◌≢◌, ◌∙◌, ℕ, suc, ◌+◌
 use Rattle.std.proofs.lemmas.List.{drop_more, drop_all}
 use Rattle.std.proofs.lemmas.Bool.Decides.{nat_tests}
 use Rattle.spot_terms.specs.Report.{mover_line, late_line, line_text, report_text}
+use Rattle.spot_terms.specs.Participants.{starting}
 use Rattle.spot_terms.specs.declared.lines.MoverLine.{MoverLine}
 use Rattle.spot_terms.specs.declared.scenario.Mover.{Mover}
 use Rattle.participants.specs.declared.participant.Participant.{Participant}
-use Rattle.participants.specs.Predictions.{starting}
 use Rattle.spot_run.specs.Lines.{line_of, obstacle_lines}
 use Rattle.spot_run.proofs.Writing.{report_text-cons, report_text-nil}
 

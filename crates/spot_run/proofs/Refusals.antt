@@ -1,24 +1,22 @@
 -- Of a tree: a check's code, and what loading says of it.
-use Rattle.std.proofs.Common.{◌≡◌, ◌∙◌, ℕ, zero, suc, ◌≤◌, List, [], ◌∷◌, length, Option, Some, None, Result, Ok, Err, refl, sym, subst}
+use Rattle.std.proofs.Common.{◌≡◌, ◌∙◌, ℕ, zero, suc, ◌≤◌, List, [], ◌∷◌, length, Option, Some, None, Result, Ok, Err, sym, subst}
 use Rattle.std.specs.Prelude.{IfOk, IfErr}
 use Rattle.std.specs.List.{AllByRecursion}
-use Rattle.spot_terms.specs.Lists.{At, Pairwise}
+use Rattle.spot_terms.specs.Lists.{At}
 use Rattle.spot_terms.proofs.ListLemmas.{all_included}
-use Rattle.spot_terms.specs.declared.scenario.RawLane.{RawLane}
 use Rattle.spot_terms.specs.declared.scenario.Scenario.{Scenario}
 use Rattle.spot_terms.specs.declared.status.Code.{Code}
-use Rattle.spot_terms.specs.declared.status.Code.TheVariants.{NotJson, NotTree, NotYet}
+use Rattle.spot_terms.specs.declared.status.Code.TheVariants.{NotJson, NotTree}
 use Rattle.spot_terms.specs.declared.status.Status.{Status}
 use Rattle.spot_terms.specs.declared.status.Status.TheVariants.{Refused, Memory}
 use Rattle.spot_claims.specs.Tree.{Element, IsTreeOf}
-use Rattle.spot_claims.specs.Paths.{at_path, lanelets}
-use Rattle.spot_claims.specs.Scenario.{IsLane, IsScenario}
+use Rattle.spot_claims.specs.Scenario.{IsScenario}
 use Rattle.spot_claims.specs.Profile.{Line, Check, code_of, profile, IsRefused}
-use Rattle.spot_claims.specs.Answers.{IsBuilt, IsOfCheck, most_bytes}
+use Rattle.spot_claims.specs.Answers.{IsOfCheck, most_bytes}
 use Rattle.std.specs.declared.vec.Vec.{Vec}
 use Rattle.std.specs.declared.alloc.Global.{Global}
 use Rattle.spot_io.specs.Reads.{ReadsAll}
-use Rattle.spot_run.specs.Loads.{IsReadWhole, Loads, IsLoadFault, IsFree, HasNone}
+use Rattle.spot_run.specs.Loads.{IsReadWhole, Loads, IsLoadFault, HasNone}
 
 -- ---- the codes of checks
 
@@ -41,29 +39,10 @@ refused_code tree place code refused =
 none_of : (tree : List Element) (place : ℕ) (code : Code) → IsOfCheck code → IsRefused tree place code → HasNone tree (Refused code place)
 none_of tree place NotJson k h = absurd k
 none_of tree place NotTree k h = absurd k
-none_of tree place NotYet k h = absurd k
 none_of tree place code k h = (k, h)
 
 pub refused_none : (tree : List Element) (place : ℕ) (code : Code) → IsRefused tree place code → HasNone tree (Refused code place)
 refused_none tree place code h = none_of tree place code (refused_code tree place code h) h
-
--- ---- lanelets
-
-pub no_lanelet : (tree : List Element) (s : Scenario) → IsScenario tree s → length s.lanelets.entries ≡ 0 → at_path tree lanelets ≡ []
-no_lanelet tree s is none = empty (at_path tree lanelets) s.lanelets.entries is.lanelets none
-  where
-    empty : (es : List ℕ) (ls : List (ℕ × RawLane)) → Pairwise (IsLane tree) es ls → length ls ≡ 0 → es ≡ []
-    empty [] ls h e = refl
-    empty (x ∷ es) [] h e = absurd h
-    empty (x ∷ es) (l ∷ ls) h e = cc
-
-pub some_lanelet : (tree : List Element) (s : Scenario) → IsScenario tree s → (length s.lanelets.entries ≡ 0 → ⊥) → at_path tree lanelets ≡ [] → ⊥
-some_lanelet tree s is some none = some (full (at_path tree lanelets) s.lanelets.entries is.lanelets none)
-  where
-    full : (es : List ℕ) (ls : List (ℕ × RawLane)) → Pairwise (IsLane tree) es ls → es ≡ [] → length ls ≡ 0
-    full [] [] h e = refl
-    full [] (l ∷ ls) h e = absurd h
-    full (x ∷ es) ls h e = cc
 
 -- ---- loading
 
@@ -71,7 +50,6 @@ pub loads_none : (bytes : List ℕ) (left : Option (List ℕ)) (tree : List Elem
 loads_none bytes left tree Memory whole tree_is h = tt
 loads_none bytes left tree (Refused NotJson place) whole tree_is h = absurd h
 loads_none bytes left tree (Refused NotTree place) whole tree_is h = absurd h
-loads_none bytes left tree (Refused NotYet place) whole tree_is h = (whole, (tree, tree_is, h.1, h.2))
 loads_none bytes left tree (Refused code place) whole tree_is h = (whole, (tree, tree_is, h.1))
 loads_none bytes left tree status whole tree_is h = absurd h
 
@@ -79,16 +57,12 @@ pub none_fault : (tree : List Element) (status : Status) → HasNone tree status
 none_fault tree Memory h = tt
 none_fault tree (Refused NotJson place) h = absurd h
 none_fault tree (Refused NotTree place) h = absurd h
-none_fault tree (Refused NotYet place) h = h.0
 none_fault tree (Refused code place) h = h.0
 none_fault tree status h = absurd h
 
-pub built_of : (bytes : List ℕ) (tree : List Element) (s : Scenario) → IsTreeOf bytes tree → IsFree tree s → IsBuilt bytes s
-built_of bytes tree s tree_is free = record { tree = tree; tree_is = tree_is; scenario = free.0; free = free.1 }
-
-pub loads_all : (bytes : List ℕ) (left : Option (List ℕ)) (tree : List Element) (result : Result Scenario Status) → IsReadWhole bytes left → IsTreeOf bytes tree → IfOk result (λ s. IsFree tree s) → IfErr result (λ status. HasNone tree status) → Loads bytes left result
-loads_all bytes left tree (Ok s) whole tree_is free none = (whole, built_of bytes tree s tree_is free)
-loads_all bytes left tree (Err status) whole tree_is free none = loads_none bytes left tree status whole tree_is none
+pub loads_all : (bytes : List ℕ) (left : Option (List ℕ)) (tree : List Element) (result : Result Scenario Status) → IsReadWhole bytes left → IsTreeOf bytes tree → IfOk result (λ s. IsScenario tree s) → IfErr result (λ status. HasNone tree status) → Loads bytes left result
+loads_all bytes left tree (Ok s) whole tree_is scenario none = (whole, (tree, tree_is, scenario))
+loads_all bytes left tree (Err status) whole tree_is scenario none = loads_none bytes left tree status whole tree_is none
 
 -- the told bytes were read whole, and are those of the tree
 pub read_whole : (told left : Option (List ℕ)) (v : Vec ℕ Global) (bytes : List ℕ) → told ≡ Some bytes → length v.items ≤ most_bytes → ReadsAll told left (Ok v) → IsReadWhole bytes left

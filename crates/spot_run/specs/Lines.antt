@@ -1,16 +1,17 @@
 -- The lines of a prediction.
-use Rattle.std.specs.Prelude.{ℕ, ◌+◌, ◌==◌, List, [], ◌∷◌, ◌++◌, map, flat_map, false, if◌then◌else◌}
-use Rattle.spot_terms.specs.Report.{Line, head_line, time_line, mover_line, late_line, fixed_line, occ_line, last_line}
+use Rattle.std.specs.Prelude.{ℕ, ◌+◌, ◌==◌, List, [], ◌∷◌, ◌++◌, map, flat_map, if◌then◌else◌}
+use Rattle.spot_terms.specs.Report.{Line, head_line, time_line, mover_line, late_line, fixed_line, lane_line, occ_line, last_line}
 use Rattle.spot_terms.specs.declared.lines.Mode.TheVariants as mode
 use Rattle.spot_terms.specs.declared.lines.End.TheVariants as end
 use Rattle.spot_terms.specs.declared.lines.MoverLine.{MoverLine}
 use Rattle.spot_terms.specs.declared.scenario.Mover.{Mover}
 use Rattle.convex_poly.specs.declared.oct_numbers.OctNumbers.{OctNumbers}
+use Rattle.lane_occupancy.specs.declared.polygons.LanePoly.{LanePoly}
 use Rattle.participants.specs.declared.participant.Participant.{Participant}
 use Rattle.participants.specs.Predictions.{Occupancies}
 
 abbrev pub line_of : Participant → MoverLine
-line_of p = record { id = p.id; lane = false; a = p.start.a; v = p.start.v; s = p.speed; r = p.start.r; p = p.start.p; b = p.start.b }
+line_of p = record { id = p.id; lane = p.lane; a = p.start.a; v = p.start.v; s = p.speed; r = p.start.r; p = p.start.p; b = p.start.b }
 
 -- the lines of the dynamic obstacles: of those whose initial time is 0 the participants' in their order, and else the
 -- lines of late ones
@@ -22,6 +23,13 @@ obstacle_lines (m ∷ ms) (p ∷ ps) = if m.time == 0 then mover_line (line_of p
 abbrev pub octagon_line : ℕ × OctNumbers → Line
 octagon_line o = fixed_line o.0 o.1.n
 
+-- the lane polygons of a participant
+abbrev pub polygon_line : ℕ → LanePoly → Line
+polygon_line id x = lane_line id x.cell x.first x.poly
+
+abbrev pub lane_lines : Participant → List Line
+lane_lines p = map (polygon_line p.id) p.polys
+
 -- the octagons of a participant, from interval i on
 abbrev pub octagon_lines : ℕ → ℕ → List OctNumbers → List Line
 octagon_lines id i [] = []
@@ -32,7 +40,7 @@ occupancy_lines p = octagon_lines p.id 0 p.octs
 
 -- what stands between the head and the end
 abbrev pub traffic_lines : List Mover → Occupancies → List Line
-traffic_lines movers o = obstacle_lines movers o.participants ++ map octagon_line o.fixed ++ flat_map occupancy_lines o.participants
+traffic_lines movers o = obstacle_lines movers o.participants ++ map octagon_line o.fixed ++ flat_map lane_lines o.participants ++ flat_map occupancy_lines o.participants
 
 -- the whole report of steps of k ticks
 abbrev pub prediction_lines : ℕ → ℕ → List Mover → Occupancies → List Line

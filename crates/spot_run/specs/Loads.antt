@@ -4,13 +4,12 @@ use Rattle.spot_terms.specs.Causes.{Takes}
 use Rattle.spot_terms.specs.declared.scenario.Scenario.{Scenario}
 use Rattle.spot_terms.specs.declared.status.Status.{Status}
 use Rattle.spot_terms.specs.declared.status.Status.TheVariants.{Refused, Limit, ReadFault, Memory}
-use Rattle.spot_terms.specs.declared.status.Code.TheVariants.{NotJson, NotTree, NotYet}
+use Rattle.spot_terms.specs.declared.status.Code.TheVariants.{NotJson, NotTree}
 use Rattle.spot_terms.specs.declared.status.Which.TheVariants.{TooLong}
 use Rattle.spot_claims.specs.Tree.{Element, IsNoJson, HasFaultAt}
-use Rattle.spot_claims.specs.Paths.{at_path, lanelets}
-use Rattle.spot_claims.specs.Profile.{IsAccepted, IsRefused}
-use Rattle.spot_claims.specs.Scenario.{IsScenario}
-use Rattle.spot_claims.specs.Answers.{IsBuilt, HasLanelets, IsRefusedAt, IsOfCheck, most_bytes}
+use Rattle.spot_claims.specs.Profile.{IsRefused}
+use Rattle.spot_claims.specs.Scenario.{IsScenarioOf}
+use Rattle.spot_claims.specs.Answers.{IsRefusedAt, IsOfCheck, most_bytes}
 
 -- all of the told bytes were read, and they are few enough
 abbrev pub IsReadWhole : List ℕ → Option (List ℕ) → Type 0
@@ -18,13 +17,12 @@ IsReadWhole bytes left = (length bytes ≤ most_bytes) × (left ≡ Some [])
 
 -- of told bytes: their scenario, or why there is none
 abbrev pub Loads : List ℕ → Option (List ℕ) → Result Scenario Status → Type 0
-Loads bytes left (Ok s) = IsReadWhole bytes left × IsBuilt bytes s
+Loads bytes left (Ok s) = IsReadWhole bytes left × IsScenarioOf bytes s
 Loads bytes left (Err ReadFault) = Unit {0}
 Loads bytes left (Err Memory) = Unit {0}
 Loads bytes left (Err (Limit TooLong step count)) = (most_bytes < length bytes) × Takes 67108865 bytes left
 Loads bytes left (Err (Refused NotJson place)) = IsReadWhole bytes left × IsNoJson bytes
 Loads bytes left (Err (Refused NotTree place)) = IsReadWhole bytes left × HasFaultAt bytes place
-Loads bytes left (Err (Refused NotYet place)) = IsReadWhole bytes left × HasLanelets bytes
 Loads bytes left (Err (Refused code place)) = IsReadWhole bytes left × IsRefusedAt bytes code place
 Loads bytes left (Err status) = ⊥
 
@@ -35,19 +33,13 @@ IsLoadFault Memory = Unit {0}
 IsLoadFault (Limit TooLong step count) = (step ≡ 0) × (count ≡ 67108865)
 IsLoadFault (Refused NotJson place) = place ≡ 0
 IsLoadFault (Refused NotTree place) = Unit {0}
-IsLoadFault (Refused NotYet place) = place ≡ 0
 IsLoadFault (Refused code place) = IsOfCheck code
 IsLoadFault status = ⊥
 
--- of a tree: its scenario without lanelets
-abbrev pub IsFree : List Element → Scenario → Type 0
-IsFree tree s = IsScenario tree s × (at_path tree lanelets ≡ [])
-
--- or why there is none
+-- of a tree: why it has no scenario
 abbrev pub HasNone : List Element → Status → Type 0
 HasNone tree Memory = Unit {0}
 HasNone tree (Refused NotJson place) = ⊥
 HasNone tree (Refused NotTree place) = ⊥
-HasNone tree (Refused NotYet place) = (place ≡ 0) × IsAccepted tree × (at_path tree lanelets ≡ [] → ⊥)
 HasNone tree (Refused code place) = IsOfCheck code × IsRefused tree place code
 HasNone tree status = ⊥

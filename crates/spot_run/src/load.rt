@@ -1,10 +1,11 @@
 //! From a source to a scenario.
 
 ghost use Rattle.std.specs.Prelude.{◌≡◌, ℕ, ◌≤◌, List, Some, IfOk, IfErr, IsErrOf};
+ghost use Rattle.lanelets.specs.Buildable.{AreBuildable};
 ghost use Rattle.spot_terms.specs.Causes.{Rose};
 ghost use Rattle.spot_terms.specs.Ranges.{IsInRange};
-ghost use Rattle.spot_claims.specs.Answers.{IsBuilt};
-ghost use Rattle.spot_run.specs.Loads.{Loads, IsLoadFault, IsFree, HasNone};
+ghost use Rattle.spot_claims.specs.Scenario.{IsScenario, IsScenarioOf};
+ghost use Rattle.spot_run.specs.Loads.{Loads, IsLoadFault, HasNone};
 
 use scenario::{ReadFault, read_scenario};
 use spot_io::{ReadEnd, Source, read_all};
@@ -12,28 +13,26 @@ use spot_terms::{Code, Scenario, Status, Which};
 use spot_tree::{Tree, TreeFault, read_tree};
 use std::alloc::Global;
 
-// The scenario of a tree without lanelets, or the status that says why there is none. Lanelets aren't predicted so far.
+// The scenario of a tree, or the status that says why there is none.
 fn scenario_of(alloc: Global, tree: &Tree) -> Result<Scenario, Status>
-    ensures free { IfOk result (λ s. IsFree tree.now s) }
+    ensures scenario { IfOk result (λ s. IsScenario tree.now s) }
     ensures range { IfOk result (λ s. IsInRange s) }
+    ensures lanes { IfOk result (λ s. AreBuildable s.lanelets.entries) }
     ensures none { IfErr result (λ status. HasNone tree.now status) }
 {
-    let scenario = match read_scenario(alloc, tree) {
-        Ok(scenario) => scenario,
-        Err(ReadFault::Refused(code, place)) => return Err(Status::Refused(code, place)),
-        Err(ReadFault::Memory) => return Err(Status::Memory),
-    };
-    if scenario.lanelets.len() > 0 {
-        return Err(Status::Refused(Code::NotYet, 0));
+    match read_scenario(alloc, tree) {
+        Ok(scenario) => Ok(scenario),
+        Err(ReadFault::Refused(code, place)) => Err(Status::Refused(code, place)),
+        Err(ReadFault::Memory) => Err(Status::Memory),
     }
-    Ok(scenario)
 }
 
 /// Reads a source to its end, and gives the scenario in its bytes, or the status that says why there is none.
 pub fn load<S: Source>(alloc: Global, source: &mut S) -> Result<Scenario, Status>
     ensures told { (bytes : List ℕ) → S.left source.old ≡ Some bytes → Loads bytes (S.left source.new) result }
-    ensures built { IfOk result (λ s. (bytes : List ℕ) × IsBuilt bytes s) }
+    ensures scenario { IfOk result (λ s. (bytes : List ℕ) × IsScenarioOf bytes s) }
     ensures range { IfOk result (λ s. IsInRange s) }
+    ensures lanes { IfOk result (λ s. AreBuildable s.lanelets.entries) }
     ensures answers { IfErr result (λ status. IsLoadFault status) }
     ensures later { S.faults source.old ≤ S.faults source.new }
     ensures fault { IsErrOf result Status.ReadFault → Rose (S.faults source.old) (S.faults source.new) }

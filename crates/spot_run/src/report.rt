@@ -7,24 +7,24 @@ ghost use Rattle.spot_terms.specs.Causes.{HasCause, AppendsFront};
 ghost use Rattle.spot_terms.specs.Report.{report_text, head_line, time_line, last_line};
 ghost use Rattle.spot_terms.specs.declared.lines.Mode.TheVariants as mode;
 ghost use Rattle.spot_terms.specs.declared.lines.End.TheVariants as end;
-ghost use Rattle.participants.specs.Predictions.{starting};
-ghost use Rattle.spot_run.specs.Lines.{line_of as participant_line, obstacle_lines, octagon_line, octagon_lines, occupancy_lines, prediction_lines};
+ghost use Rattle.spot_terms.specs.Participants.{starting};
+ghost use Rattle.spot_run.specs.Lines.{line_of as participant_line, obstacle_lines, octagon_line, octagon_lines, occupancy_lines, polygon_line, lane_lines, prediction_lines};
 
 use convex_poly::OctNumbers;
-use participants::{Participant, Prediction};
+use participants::{LanePoly, Participant, Prediction};
 use spot_io::{Sink, SinkFault};
 use spot_terms::{End, Mode, Mover, MoverLine, Scenario};
 use text_report::{
-    write_end, write_fixed, write_head, write_late, write_mover, write_occ, write_time,
+    write_end, write_fixed, write_head, write_lane, write_late, write_mover, write_occ, write_time,
 };
 
-// What the line of a participant says. A participant is free.
+// What the line of a participant says.
 fn line_of(p: &Participant) -> MoverLine
     ensures { result ≡ participant_line p.now }
 {
     MoverLine {
         id: p.id,
-        lane: false,
+        lane: p.lane,
         a: p.start.a,
         v: p.start.v,
         s: p.speed,
@@ -73,6 +73,34 @@ fn write_octagons<K: Sink>(sink: &mut K, octagons: &[(u32, OctNumbers)]) -> Resu
     Ok(())
 }
 
+// The lane polygons of one participant.
+fn write_polygons<K: Sink>(sink: &mut K, id: u32, polygons: &[LanePoly]) -> Result<(), SinkFault>
+    requires { K.takes sink.old (length (report_text (map (polygon_line id) polygons.now))) }
+    ensures ok { OnOk result (Appends (K.written sink.old) (K.written sink.new) (report_text (map (polygon_line id) polygons.now))) }
+    ensures err { OnErr result (AppendsFront (K.written sink.old) (K.written sink.new) (report_text (map (polygon_line id) polygons.now))) }
+    ensures room { OnOk result ((more : ℕ) → K.takes sink.old (length (report_text (map (polygon_line id) polygons.now)) + more) → K.takes sink.new more) }
+    ensures cause { HasCause (K.faults sink.old) (K.faults sink.new) result }
+{
+    for p in polygons {
+        write_lane(sink, id, p.cell, p.first, &p.poly)?;
+    }
+    Ok(())
+}
+
+// The lane polygons of the participants, none of one that is free.
+fn write_lanes<K: Sink>(sink: &mut K, participants: &[Participant]) -> Result<(), SinkFault>
+    requires { K.takes sink.old (length (report_text (flat_map lane_lines participants.now))) }
+    ensures ok { OnOk result (Appends (K.written sink.old) (K.written sink.new) (report_text (flat_map lane_lines participants.now))) }
+    ensures err { OnErr result (AppendsFront (K.written sink.old) (K.written sink.new) (report_text (flat_map lane_lines participants.now))) }
+    ensures room { OnOk result ((more : ℕ) → K.takes sink.old (length (report_text (flat_map lane_lines participants.now)) + more) → K.takes sink.new more) }
+    ensures cause { HasCause (K.faults sink.old) (K.faults sink.new) result }
+{
+    for p in participants {
+        write_polygons(sink, p.id, p.polys.list())?;
+    }
+    Ok(())
+}
+
 // The octagons of one participant, by interval.
 fn write_intervals<K: Sink>(sink: &mut K, id: u32, octagons: &[OctNumbers]) -> Result<(), SinkFault>
     requires few { length octagons.now ≤ 100 }
@@ -103,7 +131,7 @@ fn write_occupancies<K: Sink>(sink: &mut K, participants: &[Participant]) -> Res
     Ok(())
 }
 
-// The head, and the lines of what stands still or starts.
+// The head, and the lines of the dynamic obstacles.
 fn write_front<K: Sink>(
     sink: &mut K,
     scenario: &Scenario,
@@ -122,16 +150,16 @@ fn write_front<K: Sink>(
     write_obstacles(sink, scenario.movers.list(), prediction.list())
 }
 
-// The lines of the octagons, and the end.
+// The lines of the participants' lane polygons and octagons, and the end.
 fn write_back<K: Sink>(sink: &mut K, prediction: &Prediction) -> Result<(), SinkFault>
     requires few { AllByRecursion (λ p. length p.octs ≤ 100) prediction.now.participants }
-    requires room { K.takes sink.old (length (report_text (map octagon_line prediction.now.fixed ++ flat_map occupancy_lines prediction.now.participants ++ last_line end.Done ∷ []))) }
-    ensures ok { OnOk result (Appends (K.written sink.old) (K.written sink.new) (report_text (map octagon_line prediction.now.fixed ++ flat_map occupancy_lines prediction.now.participants ++ last_line end.Done ∷ []))) }
-    ensures err { OnErr result (AppendsFront (K.written sink.old) (K.written sink.new) (report_text (map octagon_line prediction.now.fixed ++ flat_map occupancy_lines prediction.now.participants ++ last_line end.Done ∷ []))) }
-    ensures room { OnOk result ((more : ℕ) → K.takes sink.old (length (report_text (map octagon_line prediction.now.fixed ++ flat_map occupancy_lines prediction.now.participants ++ last_line end.Done ∷ [])) + more) → K.takes sink.new more) }
+    requires room { K.takes sink.old (length (report_text (flat_map lane_lines prediction.now.participants ++ flat_map occupancy_lines prediction.now.participants ++ last_line end.Done ∷ []))) }
+    ensures ok { OnOk result (Appends (K.written sink.old) (K.written sink.new) (report_text (flat_map lane_lines prediction.now.participants ++ flat_map occupancy_lines prediction.now.participants ++ last_line end.Done ∷ []))) }
+    ensures err { OnErr result (AppendsFront (K.written sink.old) (K.written sink.new) (report_text (flat_map lane_lines prediction.now.participants ++ flat_map occupancy_lines prediction.now.participants ++ last_line end.Done ∷ []))) }
+    ensures room { OnOk result ((more : ℕ) → K.takes sink.old (length (report_text (flat_map lane_lines prediction.now.participants ++ flat_map occupancy_lines prediction.now.participants ++ last_line end.Done ∷ [])) + more) → K.takes sink.new more) }
     ensures cause { HasCause (K.faults sink.old) (K.faults sink.new) result }
 {
-    write_octagons(sink, prediction.fixed())?;
+    write_lanes(sink, prediction.list())?;
     write_occupancies(sink, prediction.list())?;
     write_end(sink, End::Done)
 }
@@ -152,5 +180,6 @@ pub fn write_prediction<K: Sink>(
     ensures cause { HasCause (K.faults sink.old) (K.faults sink.new) result }
 {
     write_front(sink, scenario, prediction, steps)?;
+    write_octagons(sink, prediction.fixed())?;
     write_back(sink, prediction)
 }

@@ -1,33 +1,73 @@
 //! The top call.
 
-ghost use Rattle.std.specs.Prelude.{◌≡◌, ◌≤◌, ◌⊎◌};
+ghost use Rattle.std.specs.Prelude.{◌≡◌, ℕ, ◌≤◌, ◌⊎◌, IfOk, IfErr};
+ghost use Rattle.lanelets.specs.Buildable.{AreBuildable};
 ghost use Rattle.spot_terms.specs.Causes.{Rose};
+ghost use Rattle.spot_terms.specs.Limits.{HasNetwork};
 ghost use Rattle.spot_terms.specs.Ranges.{IsInRange};
-ghost use Rattle.spot_run.specs.Writes.{TakesPrediction, WritesPrediction};
+ghost use Rattle.spot_run.specs.Writes.{IsPastLimit, IsPredicted, TakesPrediction, WritesPrediction};
 ghost use Rattle.spot_words.specs.Words.{StandsFor};
 ghost use Rattle.spot_claims.specs.Headline.{Headline};
-ghost use Rattle.spot_claims.specs.Answers.{AreForPredict, BadWordsExactly, TooLongExactly, NotJsonExactly, NotTreeExactly, RefusedExactly, NotYetExactly, IsKnown, IsWritten, WritesReport, ReadsSource, Completes, TakesReport};
+ghost use Rattle.spot_claims.specs.Answers.{AreForPredict, BadWordsExactly, TooLongExactly, NotJsonExactly, NotTreeExactly, RefusedExactly, TooManyCellsExactly, LaneTooWideExactly, TooManyLanePolygonsExactly, NotYetExactly, IsKnown, IsWritten, WritesReport, ReadsSource, Completes, TakesReport};
 
 use crate::load::load;
 use crate::report::write_prediction;
-use participants::predict;
+use lanelets::{NetFault, Network, build};
+use participants::{PredictFault, Prediction, predict};
 use spot_io::{Sink, Source};
-use spot_terms::{Code, Scenario, Status, Task};
+use spot_terms::{Code, Scenario, Status, Task, Which};
 use spot_words::read_words;
 use std::alloc::Global;
+
+// The network of a scenario, or the status that says why there is none.
+fn network_of(alloc: Global, scenario: &Scenario) -> Result<Network, Status>
+    requires { AreBuildable scenario.now.lanelets.entries }
+    ensures ok { IfOk result (λ net. (net ≡ scenario.now.lanelets.entries) × HasNetwork scenario.now.lanelets.entries) }
+    ensures err { IfErr result (λ status. (steps : ℕ) → IsPastLimit scenario.now steps status) }
+{
+    match build(alloc, &scenario.lanelets) {
+        Ok(net) => Ok(net),
+        Err(NetFault::TooManyCells(count)) => Err(Status::Limit(Which::TooManyCells, 0, count)),
+        Err(NetFault::LaneTooWide(id)) => Err(Status::Limit(Which::LaneTooWide, 0, u64::from(id))),
+        Err(NetFault::Memory) => Err(Status::Memory),
+    }
+}
+
+// The prediction of a scenario, or the status that says why there is none.
+fn prediction_of(alloc: Global, scenario: &Scenario, steps: u32) -> Result<Prediction, Status>
+    requires range { IsInRange scenario.now }
+    requires lanes { AreBuildable scenario.now.lanelets.entries }
+    requires steps { steps ≤ 100 }
+    ensures ok { IfOk result (λ p. IsPredicted scenario.now steps p) }
+    ensures err { IfErr result (λ status. IsPastLimit scenario.now steps status) }
+{
+    let net = match network_of(alloc, scenario) {
+        Ok(net) => net,
+        Err(status) => return Err(status),
+    };
+    match predict(alloc, scenario, &net, steps) {
+        Ok(prediction) => Ok(prediction),
+        Err(PredictFault::TooManyLanePolygons(count)) => {
+            Err(Status::Limit(Which::TooManyLanePolygons, 0, count))
+        }
+        Err(PredictFault::Memory) => Err(Status::Memory),
+    }
+}
 
 // Predicts a scenario and writes the report.
 fn write_report<K: Sink>(alloc: Global, scenario: &Scenario, steps: u32, sink: &mut K) -> Status
     requires range { IsInRange scenario.now }
+    requires lanes { AreBuildable scenario.now.lanelets.entries }
     requires steps { steps ≤ 100 }
     requires room { TakesPrediction scenario.now steps (λ n. K.takes sink.old n) }
     ensures report { WritesPrediction scenario.now steps (K.written sink.old) (K.written sink.new) result }
-    ensures kept { result ≡ Status.Memory → sink.new ≡ sink.old }
+    ensures kept { (IsWritten result → ⊥) → sink.new ≡ sink.old }
     ensures later { K.faults sink.old ≤ K.faults sink.new }
     ensures cause { result ≡ Status.WriteFault → Rose (K.faults sink.old) (K.faults sink.new) }
 {
-    let Ok(prediction) = predict(alloc, scenario, steps) else {
-        return Status::Memory;
+    let prediction = match prediction_of(alloc, scenario, steps) {
+        Ok(prediction) => prediction,
+        Err(status) => return status,
     };
     match write_prediction(sink, scenario, &prediction, steps) {
         Ok(()) => Status::Open,
@@ -37,10 +77,9 @@ fn write_report<K: Sink>(alloc: Global, scenario: &Scenario, steps: u32, sink: &
 
 /// Reads a scenario and writes the report that the words ask for. The first word is the program's own name.
 ///
-/// What is built so far is the mode `predict` for scenarios without lanelets; every other mode, and every scenario with a
-/// lanelet, is refused as `NotYet`. All values of the report are computed before the first byte is
-/// written, and writing takes no memory. After a refusal, a limit, a read fault or want of memory nothing was written;
-/// after a write fault a front of the report was.
+/// What is built so far is the mode `predict`; every other mode is refused as `NotYet`. All values of the report are
+/// computed before the first byte is written, and writing takes no memory. After a refusal, a limit, a read fault or want
+/// of memory nothing was written; after a write fault a front of the report was.
 pub fn run_spot<S: Source, K: Sink>(
     alloc: Global,
     words: &Vec<String>,
@@ -68,12 +107,15 @@ pub fn run_spot<S: Source, K: Sink>(
     // When each answer comes.
     ensures known { IsKnown result }
     ensures bad_words { BadWordsExactly (StandsFor words.now.items) result }
-    ensures not_yet { NotYetExactly (StandsFor words.now.items) (S.left source.old) result }
+    ensures not_yet { NotYetExactly (StandsFor words.now.items) result }
     ensures read_fault { result ≡ Status.ReadFault → Rose (S.faults source.old) (S.faults source.new) }
     ensures too_long { TooLongExactly (StandsFor words.now.items) (S.left source.old) result }
     ensures not_json { NotJsonExactly (StandsFor words.now.items) (S.left source.old) result }
     ensures not_tree { NotTreeExactly (StandsFor words.now.items) (S.left source.old) result }
     ensures refused { RefusedExactly (StandsFor words.now.items) (S.left source.old) result }
+    ensures too_many_cells { TooManyCellsExactly (StandsFor words.now.items) (S.left source.old) result }
+    ensures lane_too_wide { LaneTooWideExactly (StandsFor words.now.items) (S.left source.old) result }
+    ensures too_many_lane_polygons { TooManyLanePolygonsExactly (StandsFor words.now.items) (S.left source.old) result }
     ensures write_fault { result ≡ Status.WriteFault → Rose (K.faults sink.old) (K.faults sink.new) }
 
     // Where nothing fails, the report is written.

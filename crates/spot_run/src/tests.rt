@@ -21,8 +21,25 @@ occ 1 1 3160200 3634713 1160200 469463 40100 469463 1160200 3634713
 done
 ";
 
-const LANELET: &[u8] =
+const EMPTY_ROAD: &[u8] =
     br#"["commonRoad",{"commonRoadVersion":"2020a","timeStepSize":"0.1"},["lanelet",{"id":"1"},["leftBound",["point",["x","0"],["y","4"]],["point",["x","2"],["y","4"]]],["rightBound",["point",["x","0"],["y","0"]],["point",["x","2"],["y","0"]]]]]"#;
+
+const FOLLOWER: &[u8] =
+    br#"["commonRoad",{"commonRoadVersion":"2020a","timeStepSize":"0.1"},["lanelet",{"id":"1"},["leftBound",["point",["x","0"],["y","4"]],["point",["x","2"],["y","4"]]],["rightBound",["point",["x","0"],["y","0"]],["point",["x","2"],["y","0"]]]],["dynamicObstacle",{"id":"1"},["type","car"],["shape",["circle",["radius","1"]]],["initialState",["position",["point",["x","1"],["y","2"]]],["orientation",["exact","0"]],["velocity",["exact","10"]],["time",["exact","0"]]]]]"#;
+
+const ON_LANE: &[u8] = b"spot 1 predict
+time 100 1
+mover 1 lane 8 70000 10002 1000000 1000000 2000000 9999 10001 -1 1
+lane 1 0 0 8 -1000000 -414213 -414213 -1000000 2414213 -1000000 3000000 -414213 3000000 4414213 2414213 5000000 -414213 5000000 -1000000 4414213
+occ 1 0 3040100 5469463 3040100 2414213 0 -1585787 -959900 1469463
+done
+";
+
+const LONG: &[u8] =
+    br#"["commonRoad",{"commonRoadVersion":"2020a","timeStepSize":"0.1"},["lanelet",{"id":"1"},["leftBound",["point",["x","0"],["y","4"]],["point",["x","300000"],["y","4"]]],["rightBound",["point",["x","0"],["y","0"]],["point",["x","300000"],["y","0"]]]]]"#;
+
+const WIDE: &[u8] =
+    br#"["commonRoad",{"commonRoadVersion":"2020a","timeStepSize":"0.1"},["lanelet",{"id":"5"},["leftBound",["point",["x","0"],["y","100.000001"]],["point",["x","2"],["y","100.000001"]]],["rightBound",["point",["x","0"],["y","0"]],["point",["x","2"],["y","0"]]]]]"#;
 
 fn words(alloc: Global, line: &[&str]) -> Result<Vec<String>, Fail> {
     let mut words = Vec::new(alloc);
@@ -57,6 +74,39 @@ fn one_circle_is_predicted(rt: HostRuntime) -> Result<(), Fail> {
 }
 
 #[test]
+fn a_road_without_traffic(rt: HostRuntime) -> Result<(), Fail> {
+    let line = ["spot", "predict", "--steps", "1"];
+    let (status, sink) = run(rt.alloc(), &line, EMPTY_ROAD, &[], &[])?;
+    assert_eq!(rt; status, Status::Open);
+    assert_eq!(rt;
+        sink.bytes.as_slice(),
+        b"spot 1 predict\ntime 100 1\ndone\n".as_slice()
+    );
+    Ok(())
+}
+
+#[test]
+fn a_car_follows_its_lane(rt: HostRuntime) -> Result<(), Fail> {
+    let line = ["spot", "predict", "--steps", "1"];
+    let (status, sink) = run(rt.alloc(), &line, FOLLOWER, &[], &[])?;
+    assert_eq!(rt; status, Status::Open);
+    assert_eq!(rt; sink.bytes.as_slice(), ON_LANE);
+    Ok(())
+}
+
+#[test]
+fn a_limit_writes_nothing(rt: HostRuntime) -> Result<(), Fail> {
+    let line = ["spot", "predict"];
+    let (status, sink) = run(rt.alloc(), &line, LONG, &[], &[])?;
+    assert_eq!(rt; status, Status::Limit(Which::TooManyCells, 0, 150_000));
+    assert!(rt; sink.bytes.is_empty());
+    let (status, sink) = run(rt.alloc(), &line, WIDE, &[], &[])?;
+    assert_eq!(rt; status, Status::Limit(Which::LaneTooWide, 0, 5));
+    assert!(rt; sink.bytes.is_empty());
+    Ok(())
+}
+
+#[test]
 fn a_write_fault_leaves_a_front(rt: HostRuntime) -> Result<(), Fail> {
     let line = ["spot", "predict", "--steps", "1"];
     let (status, sink) = run(rt.alloc(), &line, CIRCLE, &[], &[4])?;
@@ -86,8 +136,6 @@ fn what_is_no_report_says_why(rt: HostRuntime) -> Result<(), Fail> {
     assert_eq!(rt; status, Status::Refused(Code::NotTree, 1));
     let (status, _) = run(rt.alloc(), &predict, br#"["commonRoad"]"#, &[], &[])?;
     assert_eq!(rt; status, Status::Refused(Code::Version, 0));
-    let (status, _) = run(rt.alloc(), &predict, LANELET, &[], &[])?;
-    assert_eq!(rt; status, Status::Refused(Code::NotYet, 0));
     let (status, _) = run(rt.alloc(), &["spot", "area"], CIRCLE, &[], &[])?;
     assert_eq!(rt; status, Status::Refused(Code::NotYet, 0));
     let (status, _) = run(rt.alloc(), &["spot", "fly"], CIRCLE, &[], &[])?;

@@ -1,5 +1,5 @@
 use Rattle.std.proofs.Common.{◌+◌, ◌≤◌, drop, length}
-use Rattle.participants.specs.Predictions.{starting}
+use Rattle.spot_terms.specs.Participants.{starting}
 use Rattle.spot_terms.specs.Report.{report_text}
 use Rattle.spot_run.specs.Lines.{obstacle_lines}
 use Rattle.spot_run.proofs.Writing.{Written}

@@ -1,0 +1,4 @@
+use Rattle.spot_run.proofs.run.prediction_of.Goals as goal
+
+pub returns-in-Err-clause-err : goal.returns-in-Err-clause-err
+returns-in-Err-clause-err c = c.in-Err.ensures.err c.args.steps
