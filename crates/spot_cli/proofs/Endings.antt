@@ -3,7 +3,7 @@ use Rattle.std.proofs.Common.{◌≡◌, ◌∙◌, inl, inr, sym, subst, ℕ, L
 use Rattle.spot_terms.specs.Statuses.{IsDone}
 use Rattle.spot_terms.specs.declared.status.Status.{Status}
 use Rattle.spot_terms.specs.declared.status.Status.TheVariants.{Open, Empty, BadWords, Refused, Limit, ReadFault, WriteFault, Memory}
-use Rattle.spot_claims.specs.Answers.{Meaning, IsOutside, IsWritten, ExactlyWhere, NotYetExactly, TooLongExactly, NotJsonExactly, NotTreeExactly, RefusedExactly}
+use Rattle.spot_claims.specs.Answers.{Meaning, IsOutside, IsWritten, ExactlyWhere, BadWordsExactly, NotYetExactly, TooLongExactly, NotJsonExactly, NotTreeExactly, RefusedExactly, TooManyCellsExactly, LaneTooWideExactly, TooManyLanePolygonsExactly}
 use Rattle.spot_cli.specs.Endings.{EndsAs}
 
 done_written : (status : Status) → IsDone status → IsWritten status
@@ -54,11 +54,29 @@ module _ (Stands : Meaning) (told : Option (List ℕ)) (before after : Status) (
   pub refused_still : RefusedExactly Stands told before → RefusedExactly Stands told after
   refused_still h bytes code place is of = exactly_still _ _ before after ends (λ written. written) (h bytes code place is of)
 
-  pub not_yet_still : NotYetExactly Stands told before → NotYetExactly Stands told after
+  pub too_many_cells_still : TooManyCellsExactly Stands told before → TooManyCellsExactly Stands told after
+  too_many_cells_still h bytes count is = exactly_still _ _ before after ends (λ written. written) (h bytes count is)
+
+  pub lane_too_wide_still : LaneTooWideExactly Stands told before → LaneTooWideExactly Stands told after
+  lane_too_wide_still h bytes id is = exactly_still _ _ before after ends (λ written. written) (h bytes id is)
+
+  pub too_many_lane_polygons_still : TooManyLanePolygonsExactly Stands told before → TooManyLanePolygonsExactly Stands told after
+  too_many_lane_polygons_still h bytes count is = exactly_still _ _ before after ends (λ written. written) (h bytes count is)
+
+  pub bad_words_still : BadWordsExactly Stands before → BadWordsExactly Stands after
+  bad_words_still h = record {
+    only = λ is. h.only (was_answer before after BadWords ends (λ written. written) is);
+    comes = λ none. elim (h.comes none) [
+      | inl bad ↦ inl (same_answer before after BadWords ends (λ written. written) bad)
+      | inr memory ↦ inr (same_answer before after Memory ends (λ written. written) memory)
+    ];
+  }
+
+  pub not_yet_still : NotYetExactly Stands before → NotYetExactly Stands after
   not_yet_still h = record {
-    task = λ other. elim (h.task other) [
+    only = λ is. h.only (was_answer before after _ ends (λ written. written) is);
+    comes = λ other. elim (h.comes other) [
       | inl refused ↦ inl (same_answer before after _ ends (λ written. written) refused)
       | inr memory ↦ inr (same_answer before after Memory ends (λ written. written) memory)
     ];
-    lanelets = λ bytes is. exactly_still _ _ before after ends (λ written. written) (h.lanelets bytes is);
   }

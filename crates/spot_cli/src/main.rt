@@ -4,13 +4,14 @@
 
 mod status_line;
 
-ghost use Rattle.std.specs.Prelude.{◌≡◌, ◌≢◌, []};
+ghost use Rattle.std.specs.Prelude.{◌≡◌, ◌≢◌, ◌⊎◌, []};
 ghost use Rattle.std.specs.Io.Buffered.{writer_buffer, writer_contents};
 ghost use Rattle.std.specs.Io.KnownBytes.{Keeps};
 ghost use Rattle.std.specs.IoError.{error_kind};
 ghost use Rattle.std.specs.Process.{exit_status};
-ghost use Rattle.spot_claims.specs.Answers.{BadWordsExactly, NotYetExactly, TooLongExactly, NotJsonExactly, NotTreeExactly, RefusedExactly, IsKnown};
+ghost use Rattle.spot_claims.specs.Answers.{BadWordsExactly, NotYetExactly, TooLongExactly, NotJsonExactly, NotTreeExactly, RefusedExactly, TooManyCellsExactly, LaneTooWideExactly, TooManyLanePolygonsExactly, IsKnown};
 ghost use Rattle.spot_words.specs.Words.{StandsFor};
+ghost use Rattle.spot_terms.specs.Causes.{Rose};
 ghost use Rattle.spot_terms.specs.Statuses.{IsDone, status_number};
 ghost use Rattle.spot_cli.specs.Endings.{EndsAs};
 
@@ -32,13 +33,14 @@ fn words(rt: &HostRuntime) -> io::Result<Vec<String>> {
 const BUFFER: usize = 65_536;
 
 // How a run ends once what is left in the buffer is written: a report is written only then.
-fn flushed<W: Write + Drop>(status: Status, writer: &mut BufWriter<W>) -> Status
+fn flushed<W: Write + Drop>(status: Status, sink: &mut StdSink<BufWriter<W>>) -> Status
     ensures ends { EndsAs status result }
-    ensures emptied { IsDone result → writer_buffer writer.new ≡ [] }
-    ensures kept { Keeps (writer_contents W.contents writer.old) (writer_contents W.contents writer.new) }
+    ensures cause { result ≡ Status.WriteFault → (status ≡ Status.WriteFault) ⊎ Rose sink.old.count sink.new.count }
+    ensures emptied { IsDone result → writer_buffer sink.new.inner ≡ [] }
+    ensures kept { Keeps (writer_contents W.contents sink.old.inner) (writer_contents W.contents sink.new.inner) }
 {
     let done = matches!(status, Status::Open | Status::Empty(_));
-    if done && writer.flush().is_err() {
+    if done && sink.flush().is_err() {
         Status::WriteFault
     } else {
         status
@@ -55,11 +57,14 @@ fn run<R: Read + Drop, W: Write + Drop>(
 ) -> Status
     ensures known { IsKnown result }
     ensures bad_words { BadWordsExactly (StandsFor words.now.items) result }
-    ensures not_yet { NotYetExactly (StandsFor words.now.items) (R.remaining reader) result }
+    ensures not_yet { NotYetExactly (StandsFor words.now.items) result }
     ensures too_long { TooLongExactly (StandsFor words.now.items) (R.remaining reader) result }
     ensures not_json { NotJsonExactly (StandsFor words.now.items) (R.remaining reader) result }
     ensures not_tree { NotTreeExactly (StandsFor words.now.items) (R.remaining reader) result }
     ensures refused { RefusedExactly (StandsFor words.now.items) (R.remaining reader) result }
+    ensures too_many_cells { TooManyCellsExactly (StandsFor words.now.items) (R.remaining reader) result }
+    ensures lane_too_wide { LaneTooWideExactly (StandsFor words.now.items) (R.remaining reader) result }
+    ensures too_many_lane_polygons { TooManyLanePolygonsExactly (StandsFor words.now.items) (R.remaining reader) result }
 {
     let Ok(inner) = BufWriter::with_capacity(alloc, BUFFER, writer) else {
         return Status::Memory;
@@ -70,7 +75,7 @@ fn run<R: Read + Drop, W: Write + Drop>(
     };
     let mut sink = StdSink { inner, count: 0 };
     let status = run_spot(alloc, words, &mut source, &mut sink);
-    flushed(status, &mut sink.inner)
+    flushed(status, &mut sink)
 }
 
 // How the program ends where its words can't be had: words that aren't text stand for no command.
