@@ -4,6 +4,7 @@
 mod attributes;
 mod fault;
 mod node;
+mod opened;
 mod text;
 mod tree;
 mod walk;

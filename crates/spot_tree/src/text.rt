@@ -1,27 +1,19 @@
 //! Text of an element.
-ghost use Rattle.std.specs.Prelude.{◌≡◌, ℕ, ◌≤◌, [], ◌∷◌, ◌++◌, length, IfOk, IfSome, IfNone, string_bytes, drop, IsTrue, reverse};
-ghost use Rattle.serde_json.specs.View.{items_view};
-ghost use Rattle.spot_claims.specs.Tree.{joined, trimmed, is_blank, without_front};
+ghost use Rattle.std.specs.Prelude.{◌≡◌, ℕ, [], ◌∷◌, ◌++◌, IfOk, OnOk, IfSome, IfNone, string_bytes, IsTrue, reverse};
+ghost use Rattle.spot_claims.specs.Tree.{trimmed, is_blank, without_front};
 
-use serde_json::Value;
 use std::alloc::{AllocError, Global};
 
-/// The strings among the items from a place on, joined.
-pub(crate) fn joined_text(
-    alloc: Global,
-    items: &Vec<Value>,
-    start: usize,
-) -> Result<String, AllocError>
-    requires { start ≤ length items.now.items }
-    ensures { IfOk result (λ text. string_bytes text ≡ joined (items_view (drop start items.now.items))) }
+/// Puts another part behind a text. A first part is kept as it is.
+pub(crate) fn append(text: &mut String, part: String) -> Result<(), AllocError>
+    ensures { OnOk result (string_bytes text.new ≡ string_bytes text.old ++ string_bytes part) }
 {
-    let mut text = String::new(alloc);
-    for i in start..items.len() {
-        if let Some(part) = items[i].as_str() {
-            text.push_str(part)?;
-        }
+    if text.is_empty() {
+        *text = part;
+        return Ok(());
     }
-    Ok(text)
+    text.push_str(part.as_str())?;
+    Ok(())
 }
 
 // The text behind the blank that it begins with.
@@ -58,8 +50,8 @@ fn before_blank(text: &str) -> Option<&str>
     text.strip_suffix('\r')
 }
 
-/// The text without the spaces, tabs, line feeds and carriage returns at both ends.
-pub(crate) fn trim(text: &str) -> &str
+// The text without the spaces, tabs, line feeds and carriage returns at both ends.
+fn trim(text: &str) -> &str
     ensures { result.now ≡ trimmed text.now }
 {
     let mut rest = text;
@@ -71,4 +63,14 @@ pub(crate) fn trim(text: &str) -> &str
         front = less;
     }
     front
+}
+
+/// The text without the spaces, tabs, line feeds and carriage returns at both ends. Where there are none it is kept.
+pub(crate) fn without_blanks(alloc: Global, text: String) -> Result<String, AllocError>
+    ensures { IfOk result (λ kept. string_bytes kept ≡ trimmed (string_bytes text)) }
+{
+    if trim(text.as_str()).len() == text.len() {
+        return Ok(text);
+    }
+    String::from_str(alloc, trim(text.as_str()))
 }

@@ -126,6 +126,6 @@ pub fn read_tree(alloc: Global, bytes: &[u8]) -> Result<Tree, TreeFault>
         return Err(TreeFault::NotTree(0));
     }
     let mut nodes = Vec::new(alloc);
-    add_elements(alloc, &value, &mut nodes)?;
+    add_elements(alloc, value, &mut nodes)?;
     Ok(Tree { nodes })
 }

@@ -1,59 +1,27 @@
 //! From a JSON value to a flat list of elements.
-ghost use Rattle.std.specs.Prelude.{◌≡◌, ◌≢◌, ◌+◌, ◌≤◌, ◌<◌, [], ◌++◌, length, IfOk, OnOk, IfSome, is_some, slice_set, slice_index_or, drop};
+ghost use Rattle.std.specs.Prelude.{◌≡◌, ◌≢◌, ◌+◌, ◌≤◌, ◌<◌, ◌++◌, length, IfOk, OnOk, slice_set, slice_index_or, string_bytes};
 ghost use Rattle.serde_json.specs.View.{view, items_view};
 ghost use Rattle.serde_json.specs.Data.{array};
-ghost use Rattle.spot_claims.specs.Tree.{wanted, wanted_in, content, has_name, name_of, children_from, numbered, fault_from, element_at, with_children, no_element, is_named};
+ghost use Rattle.spot_claims.specs.Tree.{wanted, wanted_in, joined, trimmed, children_from, numbered, fault_from, no_element};
 ghost use Rattle.spot_tree.specs.Views.{element, elements};
+ghost use Rattle.spot_tree.specs.Opening.{content_view, filled};
 ghost use Rattle.spot_tree.specs.Answers.{Walks};
 
 use crate::TreeFault;
-use crate::attributes::attributes_in;
 use crate::node::Node;
-use crate::text::{joined_text, trim};
+use crate::opened::{Opened, open_element};
+use crate::text::{append, without_blanks};
 use serde_json::Value;
-use std::alloc::{AllocError, Global};
+use std::alloc::Global;
+use std::vec::IntoIter;
 
-// How many items are the name and the attributes.
-fn content_start(items: &Vec<Value>) -> usize
-    ensures within { result ≤ length items.now.items }
-    ensures rest { items_view (drop result items.now.items) ≡ content (items_view items.now.items) }
-{
-    match items.as_slice() {
-        [] => 0,
-        [_, Value::Object(_), ..] => 2,
-        [_, ..] => 1,
-    }
-}
-
-// The name that the items begin with.
-fn name_in(items: &Vec<Value>) -> Option<&str>
-    ensures is { is_some result ≡ is_named (items_view items.now.items) }
-    ensures name { IfSome result (λ name. name.now ≡ name_of (items_view items.now.items)) }
-{
-    match items.as_slice() {
-        [Value::String(name), ..] if !name.is_empty() => Some(name.as_str()),
-        _ => None,
-    }
-}
-
-// The element of an array, with no children yet, or none where it isn't one by itself.
-fn childless(alloc: Global, items: &Vec<Value>) -> Result<Option<Node>, AllocError>
-    ensures is { IfOk result (λ node. is_some node ≡ has_name (items_view items.now.items)) }
-    ensures element { IfOk result (λ node. IfSome node (λ node. element node ≡ with_children (element_at 0 (items_view items.now.items)) [])) }
-{
-    let Some(name) = name_in(items) else {
-        return Ok(None);
-    };
-    let Some(attributes) = attributes_in(alloc, items)? else {
-        return Ok(None);
-    };
-    let text = joined_text(alloc, items, content_start(items))?;
-    Ok(Some(Node {
-        name: String::from_str(alloc, name)?,
-        attributes,
-        text: String::from_str(alloc, trim(&text))?,
-        children: Vec::new(alloc),
-    }))
+// The content of an element.
+#[derive(Drop)]
+struct Content {
+    /// Its strings, joined.
+    text: String,
+    /// The numbers of the elements in it.
+    children: Vec<u32>,
 }
 
 /// Adds the elements of a value that must be one, itself the first. Answers the number of the first value in it that must
@@ -61,14 +29,14 @@ fn childless(alloc: Global, items: &Vec<Value>) -> Result<Option<Node>, AllocErr
 #[cycle(add_elements)]
 pub(crate) fn add_elements(
     alloc: Global,
-    value: &Value,
+    value: Value,
     nodes: &mut Vec<Node>,
 ) -> Result<(), TreeFault>
-    requires room { length nodes.old.items + length (wanted (view value.now)) ≤ 67108864 }
-    requires one { length (wanted (view value.now)) ≢ 0 }
+    requires room { length nodes.old.items + length (wanted (view value)) ≤ 67108864 }
+    requires one { length (wanted (view value)) ≢ 0 }
     ensures ok { OnOk result (elements nodes.new.items
-        ≡ elements nodes.old.items ++ numbered (length nodes.old.items) (wanted (view value.now))) }
-    ensures fault { Walks (fault_from (length nodes.old.items) (wanted (view value.now))) result }
+        ≡ elements nodes.old.items ++ numbered (length nodes.old.items) (wanted (view value))) }
+    ensures fault { Walks (fault_from (length nodes.old.items) (wanted (view value))) result }
 {
     match value {
         Value::Array(items) => add_array(alloc, items, nodes),
@@ -77,58 +45,73 @@ pub(crate) fn add_elements(
 }
 
 #[cycle(add_elements)]
-fn add_array(alloc: Global, items: &Vec<Value>, nodes: &mut Vec<Node>) -> Result<(), TreeFault>
-    requires room { length nodes.old.items + length (wanted (array (items_view items.now.items))) ≤ 67108864 }
+fn add_array(alloc: Global, items: Vec<Value>, nodes: &mut Vec<Node>) -> Result<(), TreeFault>
+    requires room { length nodes.old.items + length (wanted (array (items_view items.items))) ≤ 67108864 }
     ensures ok { OnOk result (elements nodes.new.items
-        ≡ elements nodes.old.items ++ numbered (length nodes.old.items) (wanted (array (items_view items.now.items)))) }
-    ensures fault { Walks (fault_from (length nodes.old.items) (wanted (array (items_view items.now.items)))) result }
+        ≡ elements nodes.old.items ++ numbered (length nodes.old.items) (wanted (array (items_view items.items)))) }
+    ensures fault { Walks (fault_from (length nodes.old.items) (wanted (array (items_view items.items)))) result }
 {
     let at = nodes.len();
-    let node = match childless(alloc, items) {
-        Ok(Some(node)) => node,
+    let Opened { node, first, rest } = match open_element(alloc, items) {
+        Ok(Some(opened)) => opened,
         Ok(None) => return Err(TreeFault::NotTree(at as u32)),
         Err(_) => return Err(TreeFault::Memory),
     };
     if nodes.push(node).is_err() {
         return Err(TreeFault::Memory);
     }
-    let children = add_content(alloc, items, content_start(items), nodes)?;
-    set_children(nodes, at, children);
+    let content = add_content(alloc, first, rest, nodes)?;
+    let Ok(text) = without_blanks(alloc, content.text) else {
+        return Err(TreeFault::Memory);
+    };
+    set_content(nodes, at, text, content.children);
     Ok(())
 }
 
-// Gives an element its children.
-fn set_children(nodes: &mut Vec<Node>, at: usize, children: Vec<u32>)
+// Gives an element its text and its children.
+fn set_content(nodes: &mut Vec<Node>, at: usize, text: String, children: Vec<u32>)
     requires { at < length nodes.old.items }
-    ensures { elements nodes.new.items ≡ slice_set (elements nodes.old.items) at (with_children (slice_index_or (elements nodes.old.items) at no_element) children.items) }
+    ensures { elements nodes.new.items ≡ slice_set (elements nodes.old.items) at (filled (slice_index_or (elements nodes.old.items) at no_element) (string_bytes text) children.items) }
 {
-    nodes[at].children = children;
+    let node = &mut nodes[at];
+    node.text = text;
+    node.children = children;
 }
 
-// Adds the elements of all items from a place on, and gives the numbers of those that the items are.
+// Adds the elements of all items of a content, the first and the rest, and gives the strings and the numbers of those
+// that the items are.
 #[cycle(add_elements)]
 fn add_content(
     alloc: Global,
-    items: &Vec<Value>,
-    start: usize,
+    first: Option<Value>,
+    mut rest: IntoIter<Value, Global>,
     nodes: &mut Vec<Node>,
-) -> Result<Vec<u32>, TreeFault>
-    requires start { start ≤ length items.now.items }
-    requires room { length nodes.old.items + length (wanted_in (items_view (drop start items.now.items))) ≤ 67108864 }
+) -> Result<Content, TreeFault>
+    requires room { length nodes.old.items + length (wanted_in (content_view first rest)) ≤ 67108864 }
     ensures ok { OnOk result (elements nodes.new.items
-        ≡ elements nodes.old.items ++ numbered (length nodes.old.items) (wanted_in (items_view (drop start items.now.items)))) }
-    ensures children { IfOk result (λ children. children.items ≡ children_from (length nodes.old.items) (items_view (drop start items.now.items))) }
-    ensures fault { Walks (fault_from (length nodes.old.items) (wanted_in (items_view (drop start items.now.items)))) result }
+        ≡ elements nodes.old.items ++ numbered (length nodes.old.items) (wanted_in (content_view first rest))) }
+    ensures content { IfOk result (λ content. (string_bytes content.text ≡ joined (content_view first rest))
+        × (content.children.items ≡ children_from (length nodes.old.items) (content_view first rest))) }
+    ensures fault { Walks (fault_from (length nodes.old.items) (wanted_in (content_view first rest))) result }
 {
+    let mut text = String::new(alloc);
     let mut children = Vec::new(alloc);
-    for i in start..items.len() {
-        let item = &items[i];
-        if !item.is_string() {
-            if children.push(nodes.len() as u32).is_err() {
-                return Err(TreeFault::Memory);
+    let mut next = first;
+    while let Some(item) = next {
+        match item {
+            Value::String(part) => {
+                if append(&mut text, part).is_err() {
+                    return Err(TreeFault::Memory);
+                }
             }
-            add_elements(alloc, item, nodes)?;
+            value => {
+                if children.push(nodes.len() as u32).is_err() {
+                    return Err(TreeFault::Memory);
+                }
+                add_elements(alloc, value, nodes)?;
+            }
         }
+        next = rest.next();
     }
-    Ok(children)
+    Ok(Content { text, children })
 }
