@@ -137,7 +137,7 @@ chain_step kx ky done chain new next c r front turns side =
               (subst (λ z. key kx ky (get_or (chain ++ next ∷ []) i d) <ℤ key kx ky z) (sym (top j d (omega (arith, new_size, kept_size)))) (up i (length chain) d (omega (arith, new_size, front.within)) (omega (arith, old_size))))
         ]
 
-toward_more : (gx gy : ℤ) (us vs : List Pt) (q : Pt) → AllByRecursion (Includes vs) us → Toward gx gy us q → Toward gx gy vs q
+pub toward_more : (gx gy : ℤ) (us vs : List Pt) (q : Pt) → AllByRecursion (Includes vs) us → Toward gx gy us q → Toward gx gy vs q
 toward_more gx gy us vs q h t = toward_flat gx gy us vs q (all_map (Includes vs) (Toward gx gy vs) (λ u c. toward_included gx gy vs u c) us h) t
 
 -- a point on the sides of a chain there and a chain back is in the hull of a list that has both

@@ -38,7 +38,7 @@ slopes kx ky ax ay bx by cx cy ex ey =
     (cross_exp (var 2) (var 3) (var 4) (var 5) (var 8) (var 9) ⊗ (K (var 6) (var 7) ⊖ K (var 4) (var 5)))
     ((cross_exp (var 2) (var 3) (var 4) (var 5) (var 6) (var 7) ⊗ (K (var 8) (var 9) ⊖ K (var 4) (var 5))) ⊕ (cross_exp (var 4) (var 5) (var 6) (var 7) (var 8) (var 9) ⊗ (K (var 4) (var 5) ⊖ K (var 2) (var 3)))) refl
 
-gap_above : (z w : ℤ) → z <ℤ w → pos 0 <ℤ (w -ℤ z)
+pub gap_above : (z w : ℤ) → z <ℤ w → pos 0 <ℤ (w -ℤ z)
 gap_above z w h = omega (arith, ints)
 
 -- a, b, c and b, c, e turn left, so a, b, e do

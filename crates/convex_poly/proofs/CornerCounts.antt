@@ -63,7 +63,7 @@ fan_sum kx ky ox oy ax ay bx by cx cy =
     ((cross_exp (var 2) (var 3) (var 4) (var 5) (var 6) (var 7) ⊗ (K (var 8) (var 9) ⊖ K (var 2) (var 3))) ⊕ (cross_exp (var 2) (var 3) (var 6) (var 7) (var 8) (var 9) ⊗ (K (var 4) (var 5) ⊖ K (var 2) (var 3)))) refl
 
 -- the point comes after o by its key
-abbrev IsAfter : Pt → Pt → Type 0
+abbrev pub IsAfter : Pt → Pt → Type 0
 IsAfter o a = key far (pos 1) o <ℤ key far (pos 1) a
 
 fan_on : (o a b c : Pt) → IsAfter o a → IsAfter o b → IsAfter o c → pos 0 <ℤ cross o a b → pos 0 <ℤ cross o b c → pos 0 <ℤ cross o a c
@@ -79,7 +79,7 @@ fan_each : (o a b : Pt) (cs : List Pt) → IsAfter o a → IsAfter o b → AllBy
 fan_each o a b [] ha hb hc ab h = tt
 fan_each o a b (c ∷ cs) ha hb hc ab h = (fan_on o a b c ha hb hc.0 ab h.0, fan_each o a b cs ha hb hc.1 ab h.1)
 
-fan_all : (o a : Pt) (bs : List Pt) → IsAfter o a → AllByRecursion (IsAfter o) bs → FanLeft o a bs → AllByRecursion (λ b. pos 0 <ℤ cross o a b) bs
+pub fan_all : (o a : Pt) (bs : List Pt) → IsAfter o a → AllByRecursion (IsAfter o) bs → FanLeft o a bs → AllByRecursion (λ b. pos 0 <ℤ cross o a b) bs
 fan_all o a [] ha hb f = tt
 fan_all o a (b ∷ bs) ha hb f = (f.0, fan_each o a b bs ha hb.0 hb.1 f.0 (fan_all o b bs hb.0 hb.1 f.1))
 
@@ -93,7 +93,7 @@ fan_distinct o a (b ∷ bs) ha hb f = (
   fan_distinct o b bs hb.0 hb.1 f.1,
 )
 
-after_all : (o : Pt) (bs : List Pt) → IsPosition o → AllByRecursion IsPosition bs → AllByRecursion (Before o) bs → AllByRecursion (IsAfter o) bs
+pub after_all : (o : Pt) (bs : List Pt) → IsPosition o → AllByRecursion IsPosition bs → AllByRecursion (Before o) bs → AllByRecursion (IsAfter o) bs
 after_all o [] p h k = tt
 after_all o (b ∷ bs) p h k = (before_key o b p h.0 k.0, after_all o bs p h.1 k.1)
 

@@ -15,7 +15,7 @@ use Rattle.spot_terms.proofs.Hulls.{hull_first}
 use Rattle.std.specs.List.Sorted.{IsPermutation}
 use Rattle.convex_poly.specs.Polygons.{IsPosition, IsPolygon}
 use Rattle.convex_poly.proofs.Orders.{permuted_in, permuted_all}
-use Rattle.convex_poly.specs.Chains.{key, Rising, Toward, IsChain, IsOrdered, between_ends}
+use Rattle.convex_poly.specs.Chains.{key, HasMeetingEnds, Rising, Toward, IsChain, IsOrdered, IsSideOf, between_ends}
 use Rattle.spot_terms.proofs.ListLemmas.{all_included, all_of, includes_at, includes_back, includes_front}
 use Rattle.convex_poly.proofs.Places.{all_at, place_of, order}
 use Rattle.convex_poly.proofs.Chains.{Loop, loop_turns, neg_key, key_neg}
@@ -40,7 +40,7 @@ before_key a b h k (inr l) = key_level a.x a.y b.x b.y l.0 l.1
 clash : (z w : ℤ) → z <ℤ w → w <ℤ z → ⊥
 clash z w h k = omega (arith, ints)
 
-key_before : (a b : Pt) → IsPosition a → IsPosition b → key far (pos 1) a <ℤ key far (pos 1) b → Before a b
+pub key_before : (a b : Pt) → IsPosition a → IsPosition b → key far (pos 1) a <ℤ key far (pos 1) b → Before a b
 key_before a b h k l =
     by_lt_z a.x b.x (λ less. inl less)
     (λ back. by_lt_z b.x a.x
@@ -78,7 +78,7 @@ reverse_includes s u i =
 
 -- ---- one point
 
-single : (p : Pt) (s : List Pt) (kx ky : ℤ) → 0 < length s → AllByRecursion (Includes (p ∷ [])) s → Rising kx ky s → s ≡ p ∷ []
+pub single : (p : Pt) (s : List Pt) (kx ky : ℤ) → 0 < length s → AllByRecursion (Includes (p ∷ [])) s → Rising kx ky s → s ≡ p ∷ []
 single p [] kx ky h a r = absurd (omega arith)
 single p (u ∷ []) kx ky h a r = elim a.0 [ inl e ↦ ap (λ (z : Pt). z ∷ []) e | inr n ↦ absurd n ]
 single p (u ∷ v ∷ s) kx ky h a r = absurd (still (key kx ky p) (subst (λ (z : Pt). key kx ky z <ℤ key kx ky p) (only u a.0) (subst (λ (z : Pt). key kx ky u <ℤ key kx ky z) (only v a.1.0) (r 0 1 p (omega arith) (omega arith)))))
@@ -90,7 +90,7 @@ single p (u ∷ v ∷ s) kx ky h a r = absurd (still (key kx ky p) (subst (λ (z
     still : (z : ℤ) → z <ℤ z → ⊥
     still z h = omega (arith, ints)
 
-one_point : (p : Pt) → IsHullOf (p ∷ []) (p ∷ [])
+pub one_point : (p : Pt) → IsHullOf (p ∷ []) (p ∷ [])
 one_point p = record {
   ordered = (tt, ((inl refl, tt), tt));
   among = (inl refl, tt);
@@ -99,7 +99,7 @@ one_point p = record {
 
 -- ---- two points and more
 
-two_of : (kx ky : ℤ) (s chain : List Pt) → 2 ≤ length s → Rising kx ky s → IsChain kx ky s chain → 2 ≤ length chain
+pub two_of : (kx ky : ℤ) (s chain : List Pt) → 2 ≤ length s → Rising kx ky s → IsChain kx ky s chain → 2 ≤ length chain
 two_of kx ky s chain two r c =
     elim (order (length chain) 2) [
       | inr enough ↦ enough
@@ -120,19 +120,7 @@ two_of kx ky s chain two r c =
         (subst (λ (z : Pt). key kx ky z <ℤ key kx ky (get_or chain 0 d)) (sym first)
         (subst (λ (z : Pt). key kx ky (get_or s 0 d) <ℤ key kx ky z) (sym last) (r 0 (length s - 1) d (omega (arith, two)) (omega (arith, two)))))
 
-module _ (s there back : List Pt) (positions : AllByRecursion IsPosition s) (ordered : IsOrdered s) (two : 2 ≤ length s) (t : IsChain far (pos 1) s there) (b : IsChain (pos 0 -ℤ far) (pos 0 -ℤ pos 1) (reverse s) back) where
-  rises : Rising far (pos 1) s
-  rises = ordered_rises s positions ordered
-
-  size : length (reverse s) ≡ length s
-  size = length-reverse s
-
-  there_two : 2 ≤ length there
-  there_two = two_of far (pos 1) s there two rises t
-
-  back_two : 2 ≤ length back
-  back_two = two_of (pos 0 -ℤ far) (pos 0 -ℤ pos 1) (reverse s) back (omega (arith, size, two)) (reversed_rises far (pos 1) s rises) b
-
+module _ (s there back : List Pt) (positions : AllByRecursion IsPosition s) (t : IsSideOf far (pos 1) s there) (b : IsSideOf (pos 0 -ℤ far) (pos 0 -ℤ pos 1) s back) (there_two : 2 ≤ length there) (back_two : 2 ≤ length back) (meet : HasMeetingEnds there back) where
   middle_size : length (between_ends back) + 2 ≡ length back
   middle_size = let k : length (drop 1 back) ≡ length back - 1 = length-drop 1 back in let e : length (between_ends back) ≡ length back - 2 = simp length-take (omega (arith, k)) in omega (arith, e, back_two)
 
@@ -140,12 +128,10 @@ module _ (s there back : List Pt) (positions : AllByRecursion IsPosition s) (ord
   middle_at k d l = get_or-take (length back - 2) (drop 1 back) k d (omega (arith, l)) ∙ get_or_after_one back k d ∙ ap (λ n. get_or back n d) (omega arith)
 
   foot : (i : ℕ) (d : Pt) → i + 1 ≡ length back → get_or back i d ≡ get_or there 0 d
-  foot i d e =
-      b.ends.last i (length s - 1) d e (omega (arith, size, two)) ∙ get_or-reverse s (length s - 1) d (omega (arith, two)) ∙ ap (λ n. get_or s n d) (omega (arith, two)) ∙ sym (t.ends.first d (omega (arith, two)))
+  foot = meet.foot
 
   top : (i : ℕ) (d : Pt) → i + 1 ≡ length there → get_or there i d ≡ get_or back 0 d
-  top i d e =
-      t.ends.last i (length s - 1) d e (omega (arith, two)) ∙ ap (λ n. get_or s n d) (omega (arith, two)) ∙ sym (get_or-reverse s 0 d (omega (arith, two))) ∙ sym (b.ends.first d (omega (arith, size, two)))
+  top = meet.top
 
   whole : length (there ++ between_ends back) ≡ length there + length (between_ends back)
   whole = simp length-append refl
@@ -169,7 +155,7 @@ module _ (s there back : List Pt) (positions : AllByRecursion IsPosition s) (ord
   there_in u i = all_included (Includes s) there u t.inside i
 
   back_in : (u : Pt) → Includes back u → Includes s u
-  back_in u i = includes_reverse s u (all_included (Includes (reverse s)) back u b.inside i)
+  back_in u i = all_included (Includes s) back u b.inside i
 
   middle_in_back : (u : Pt) → Includes (between_ends back) u → Includes back u
   middle_in_back u i = let (k, l, e) = place_of (between_ends back) u u i in
@@ -214,8 +200,8 @@ module _ (s there back : List Pt) (positions : AllByRecursion IsPosition s) (ord
           back_position : (i : ℕ) → i < length back → IsPosition (get_or back i d)
           back_position i l = all_included IsPosition s (get_or back i d) positions (back_in (get_or back i d) (includes_at back i d l))
 
-  hull_of_two : IsHullOf s (there ++ between_ends back)
-  hull_of_two = record {
+  pub hull_of_sides : IsHullOf s (there ++ between_ends back)
+  hull_of_sides = record {
     ordered = corner_list_of (there ++ between_ends back) (omega (arith, whole, there_two)) starts (loop_turns far (pos 1) there back (there ++ between_ends back) loop);
     among = all_in;
     covers = all_of (InHull (there ++ between_ends back)) s (λ u i.
@@ -223,8 +209,31 @@ module _ (s there back : List Pt) (positions : AllByRecursion IsPosition s) (ord
         (all_of (Includes (there ++ between_ends back)) there (λ v j. includes_front there (between_ends back) v j))
         (all_of (Includes (there ++ between_ends back)) back has_back)
         (all_included (Toward (pos 1) (pos 0 -ℤ far) there) s u t.side i)
-        (all_included (Toward (pos 0 -ℤ pos 1) (pos 0 -ℤ (pos 0 -ℤ far)) back) (reverse s) u b.side (reverse_includes s u i)));
+        (all_included (Toward (pos 0 -ℤ pos 1) (pos 0 -ℤ (pos 0 -ℤ far)) back) s u b.side i));
   }
+
+hull_of_two : (s there back : List Pt) → AllByRecursion IsPosition s → IsOrdered s → 2 ≤ length s → IsChain far (pos 1) s there → IsChain (pos 0 -ℤ far) (pos 0 -ℤ pos 1) (reverse s) back → IsHullOf s (there ++ between_ends back)
+hull_of_two s there back positions ordered two t b =
+    hull_of_sides s there back positions
+    (record { turns = t.turns; rises = t.rises; inside = t.inside; side = t.side })
+    (record {
+      turns = b.turns;
+      rises = b.rises;
+      inside = all_of (Includes s) back (λ u i. includes_reverse s u (all_included (Includes (reverse s)) back u b.inside i));
+      side = all_of (Toward (pos 0 -ℤ pos 1) (pos 0 -ℤ (pos 0 -ℤ far)) back) s (λ u i. all_included (Toward (pos 0 -ℤ pos 1) (pos 0 -ℤ (pos 0 -ℤ far)) back) (reverse s) u b.side (reverse_includes s u i));
+    })
+    (two_of far (pos 1) s there two rises t)
+    (two_of (pos 0 -ℤ far) (pos 0 -ℤ pos 1) (reverse s) back (omega (arith, size)) (reversed_rises far (pos 1) s rises) b)
+    (record {
+      foot = λ i d e. b.ends.last i (length s - 1) d e (omega (arith, size)) ∙ get_or-reverse s (length s - 1) d (omega arith) ∙ ap (λ n. get_or s n d) (omega arith) ∙ sym (t.ends.first d (omega arith));
+      top = λ i d e. t.ends.last i (length s - 1) d e (omega arith) ∙ ap (λ n. get_or s n d) (omega arith) ∙ sym (get_or-reverse s 0 d (omega arith)) ∙ sym (b.ends.first d (omega (arith, size)));
+    })
+  where
+    rises : Rising far (pos 1) s
+    rises = ordered_rises s positions ordered
+
+    size : length (reverse s) ≡ length s
+    size = length-reverse s
 
 -- the corners of the hull of points in order
 pub hull_of_chains : (s there back : List Pt) → AllByRecursion IsPosition s → IsOrdered s → 0 < length s → IsChain far (pos 1) s there → IsChain (pos 0 -ℤ far) (pos 0 -ℤ pos 1) (reverse s) back → IsHullOf s (there ++ between_ends back)

@@ -4,6 +4,7 @@ pub mod Wide
 pub mod Crosses
 pub mod Corners
 pub mod Supports
+mod Ends
 pub mod Sides
 pub mod Chains
 pub mod Trims
@@ -24,3 +25,7 @@ pub mod OctRuns
 pub mod CornerCounts
 pub mod Edges
 pub mod Directions
+pub mod Merges
+pub mod Tops
+pub mod PolygonParts
+pub mod SumSides

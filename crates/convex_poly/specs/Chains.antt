@@ -48,6 +48,18 @@ pub record IsChain (kx ky : ℤ) (done chain : List Pt) : Type 0 where
   pub side : AllByRecursion (Toward ky (pos 0 -ℤ kx) chain) done
   pub ends : HasEndsOf done chain
 
+-- chain is some of the points by rising keys, and turns left with all of them on its side
+pub record IsSideOf (kx ky : ℤ) (points chain : List Pt) : Type 0 where
+  pub turns : TurnsLeft chain
+  pub rises : Rising kx ky chain
+  pub inside : AllByRecursion (Includes points) chain
+  pub side : AllByRecursion (Toward ky (pos 0 -ℤ kx) chain) points
+
+-- the list back begins where the list there ends, and ends where that begins
+pub record HasMeetingEnds (there back : List Pt) : Type 0 where
+  pub foot : (i : ℕ) (d : Pt) → i + 1 ≡ length back → slice_index_or back i d ≡ slice_index_or there 0 d
+  pub top : (i : ℕ) (d : Pt) → i + 1 ≡ length there → slice_index_or there i d ≡ slice_index_or back 0 d
+
 -- lesser x, or equal x and y at most that of b
 pub record IsInOrder (a b : Pt) : Type 0 where
   pub by_x : a.x ≤ℤ b.x

@@ -5,3 +5,4 @@ pub mod Chains
 pub mod Runs
 pub mod Pivots
 pub mod OctRows
+pub mod Sums

@@ -10,6 +10,11 @@ pub record IsPosition (p : Pt) : Type 0 where
   pub x : SizeAtMost 40_000_000_000_000 p.x
   pub y : SizeAtMost 40_000_000_000_000 p.y
 
+-- both coordinates are at most 2·10^13 in size, so that the sum of two is a position
+pub record IsSummand (p : Pt) : Type 0 where
+  pub x : SizeAtMost 20_000_000_000_000 p.x
+  pub y : SizeAtMost 20_000_000_000_000 p.y
+
 -- what is true of the corners of each polygon
 pub record IsPolygon (corners : List Pt) : Type 0 where
   pub convex : IsCornerList corners

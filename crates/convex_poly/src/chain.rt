@@ -21,8 +21,8 @@ fn has_dent(chain: &[Pt], next: &Pt) -> bool
 }
 
 /// Adds a point that follows all others, and drops the points that it leaves inside.
-fn extend(chain: &mut ArrayVec<Pt, 64>, next: &Pt)
-    requires room { array_vec_len chain.old < 64 }
+fn extend<const CAP: usize>(chain: &mut ArrayVec<Pt, CAP>, next: &Pt)
+    requires room { array_vec_len chain.old < CAP }
     requires positions { AllByRecursion IsPosition chain.old.items }
     requires next_in { IsPosition next.now }
     ensures front { KeepsFront chain.old.items next.now chain.new.items }
@@ -37,10 +37,11 @@ fn extend(chain: &mut ArrayVec<Pt, 64>, next: &Pt)
 
 /// Puts the chain of points whose keys rise into `chain`, in place of what is there: it turns left, and all points lie
 /// on its left side.
-pub(crate) fn put_chain(chain: &mut ArrayVec<Pt, 64>, points: &[Pt])
-    requires few { length points.now ≤ 64 }
+pub(crate) fn put_chain<const CAP: usize>(chain: &mut ArrayVec<Pt, CAP>, points: &[Pt])
+    requires few { length points.now ≤ CAP }
     requires positions { AllByRecursion IsPosition points.now }
-    ensures { (kx ky : ℤ) → Rising kx ky points.now → IsChain kx ky points.now chain.new.items }
+    ensures few { length chain.new.items ≤ length points.now }
+    ensures chain { (kx ky : ℤ) → Rising kx ky points.now → IsChain kx ky points.now chain.new.items }
 {
     chain.clear();
     for p in points {

@@ -21,7 +21,7 @@ pub(crate) fn put_corners(corners: &mut ArrayVec<Pt, 20>, points: &[Pt])
     ensures { IsHullOf points.now corners.new.items }
 {
     let mut ordered = ArrayVec::new();
-    let mut there = ArrayVec::new();
+    let mut there = ArrayVec::<Pt, 64>::new();
     let mut back = ArrayVec::new();
     // the sorted points stand where the chain back will
     put_sorted(&mut back, points);
@@ -34,7 +34,7 @@ pub(crate) fn put_corners(corners: &mut ArrayVec<Pt, 20>, points: &[Pt])
 
 /// Puts the points of the chain there into `corners`, in place of what is there, and behind them those of the chain
 /// back without its ends, which the first has.
-fn put_joined(corners: &mut ArrayVec<Pt, 20>, there: &[Pt], back: &[Pt])
+pub(crate) fn put_joined(corners: &mut ArrayVec<Pt, 20>, there: &[Pt], back: &[Pt])
     requires { length (there.now ++ between_ends back.now) ≤ 20 }
     ensures { corners.new.items ≡ there.now ++ between_ends back.now }
 {
@@ -54,7 +54,7 @@ fn without_ends(points: &[Pt]) -> &[Pt]
 }
 
 /// Adds the points at the end.
-fn push_all(corners: &mut ArrayVec<Pt, 20>, points: &[Pt])
+pub(crate) fn push_all(corners: &mut ArrayVec<Pt, 20>, points: &[Pt])
     requires { length corners.old.items + length points.now ≤ 20 }
     ensures { corners.new.items ≡ corners.old.items ++ points.now }
 {

@@ -5,6 +5,8 @@ ghost use Rattle.convex_poly.specs.Polygons.{IsPolygon};
 ghost use Rattle.spot_terms.specs.declared.plain.Pt.{Pt as Point};
 
 use crate::hulls::put_corners;
+use crate::segments::put_ends;
+use crate::sums::put_sum_corners;
 use arrayvec::ArrayVec;
 use spot_terms::Pt;
 use std::marker::Model;
@@ -87,10 +89,11 @@ impl Poly {
     }
 }
 
-ghost use Rattle.std.specs.Prelude.{◌<◌, ◌≤◌, length};
+ghost use Rattle.std.specs.Prelude.{◌<◌, ◌≤◌, ◌+◌, [], ◌∷◌, length};
 ghost use Rattle.std.specs.List.{AllByRecursion};
 ghost use Rattle.spot_terms.specs.Hull.{IsHullOf};
-ghost use Rattle.convex_poly.specs.Polygons.{IsPosition};
+ghost use Rattle.spot_terms.specs.LanePolygons.{sums};
+ghost use Rattle.convex_poly.specs.Polygons.{IsPosition, IsSummand};
 
 /// The polygon of the hull of 1 to 64 points, where the hull has at most 20 corners.
 pub fn hull(points: &[Pt]) -> Poly
@@ -102,5 +105,29 @@ pub fn hull(points: &[Pt]) -> Poly
 {
     let mut corners = ArrayVec::new();
     put_corners(&mut corners, points);
+    Poly { corners }
+}
+
+/// The polygon of the hull of two points: the segment between them, or the one point that both are.
+pub fn segment(p: Pt, q: Pt) -> Poly
+    requires p_in { IsPosition p }
+    requires q_in { IsPosition q }
+    ensures { IsHullOf (p ∷ q ∷ []) result }
+{
+    let mut corners = ArrayVec::new();
+    put_ends(&mut corners, &p, &q);
+    Poly { corners }
+}
+
+/// The polygon of all sums of a point of the one polygon and a point of the other (their Minkowski sum). The two have at most
+/// 20 corners together, each coordinate at most 2·10^13 in size.
+pub fn sum_hull(a: &Poly, b: &Poly) -> Poly
+    requires few { length a.now + length b.now ≤ 20 }
+    requires a_near { AllByRecursion IsSummand a.now }
+    requires b_near { AllByRecursion IsSummand b.now }
+    ensures { IsHullOf (sums a.now b.now) result }
+{
+    let mut corners = ArrayVec::new();
+    put_sum_corners(&mut corners, a.corners(), b.corners());
     Poly { corners }
 }

@@ -1,8 +1,8 @@
-ghost use Rattle.std.specs.Prelude.{◌≡◌, ◌<◌, ◌≤◌, length};
+ghost use Rattle.std.specs.Prelude.{◌≡◌, ◌<◌, ◌≤◌, ◌+◌, length};
 ghost use Rattle.std.specs.List.{AllByRecursion};
 ghost use Rattle.spot_terms.specs.Hull.{IsHullOf};
 ghost use Rattle.spot_terms.specs.Whole.{SizeAtMost};
-ghost use Rattle.convex_poly.specs.Polygons.{IsPosition};
+ghost use Rattle.convex_poly.specs.Polygons.{IsPosition, IsSummand};
 
 use super::*;
 use std::test::Fail;
@@ -141,5 +141,96 @@ fn rows_of_octagons(rt: HostRuntime) -> Result<(), Fail> {
         wide.run(-FAR, FAR),
         Some((-60_000_000_000_000, 60_000_000_000_000))
     );
+    Ok(())
+}
+
+/// The point (x, y).
+fn near(x: i64, y: i64) -> Pt
+    requires x { SizeAtMost 20_000_000_000_000 x }
+    requires y { SizeAtMost 20_000_000_000_000 y }
+    ensures { IsSummand result }
+{
+    Pt { x, y }
+}
+
+/// The corners of the sums of the hulls of the points, of which there are at most 20 in all.
+fn summed(a: &[Pt], b: &[Pt]) -> Poly
+    requires a_some { 0 < length a.now }
+    requires b_some { 0 < length b.now }
+    requires few { length a.now + length b.now ≤ 20 }
+    requires a_in { AllByRecursion IsSummand a.now }
+    requires b_in { AllByRecursion IsSummand b.now }
+{
+    sum_hull(&hull(a), &hull(b))
+}
+
+#[test]
+fn sums_of_polygons(rt: HostRuntime) -> Result<(), Fail> {
+    let point = [near(5, -7)];
+    let slash = [near(0, 0), near(1, 2)];
+    let longer = [near(-2, -4), near(0, 0)];
+    let dash = [near(0, 0), near(3, 0)];
+    let post = [near(0, -1), near(0, 1)];
+    let square = [near(0, 0), near(4, 0), near(4, 4), near(0, 4)];
+    let kite = [near(0, 0), near(3, -1), near(4, 4), near(-1, 3)];
+    let octagon = [
+        near(5, 2),
+        near(5, -2),
+        near(2, 5),
+        near(-2, 5),
+        near(-5, 2),
+        near(-5, -2),
+        near(-2, -5),
+        near(2, -5),
+    ];
+    assert_eq!(rt;
+        summed(&point, &point).corners(),
+        [near(10, -14)].as_slice()
+    );
+    assert_eq!(rt;
+        summed(&slash, &point).corners(),
+        [near(5, -7), near(6, -5)].as_slice()
+    );
+    assert_eq!(rt;
+        summed(&slash, &longer).corners(),
+        [near(-2, -4), near(1, 2)].as_slice()
+    );
+    assert_eq!(rt;
+        summed(&dash, &post).corners(),
+        [near(0, -1), near(3, -1), near(3, 1), near(0, 1)].as_slice()
+    );
+    assert_eq!(rt;
+        summed(&square, &square).corners(),
+        [near(0, 0), near(8, 0), near(8, 8), near(0, 8)].as_slice()
+    );
+    assert_eq!(rt;
+        summed(&kite, &square).corners(),
+        [
+            near(-1, 3),
+            near(0, 0),
+            near(3, -1),
+            near(7, -1),
+            near(8, 4),
+            near(8, 8),
+            near(4, 8),
+            near(-1, 7),
+        ]
+        .as_slice()
+    );
+    assert_eq!(rt;
+        summed(&octagon, &square).corners(),
+        [
+            near(-5, -2),
+            near(-2, -5),
+            near(6, -5),
+            near(9, -2),
+            near(9, 6),
+            near(6, 9),
+            near(-2, 9),
+            near(-5, 6),
+        ]
+        .as_slice()
+    );
+    assert_eq!(rt; summed(&octagon, &kite).corners().len(), 12);
     Ok(())
 }

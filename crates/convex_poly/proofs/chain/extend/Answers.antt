@@ -5,16 +5,16 @@ use Rattle.convex_poly.proofs.Trims.{trim_none, trim_step, trim_turns}
 use Rattle.convex_poly.proofs.chain.extend.Goals as goal
 
 pub loop-chain-init : goal.loop-chain-init
-loop-chain-init c = trim_none c.args.chain.now.items c.args.next.now
+loop-chain-init g c = trim_none c.args.chain.now.items c.args.next.now
 
 pub loop-chain-preserved : goal.loop-chain-preserved
-loop-chain-preserved c =
+loop-chain-preserved g c =
     let dent : HasDent c.loop-chain.chain.items c.args.next.now =
     subst (λ (z : List Pt). HasDent z c.args.next.now) c.as_slice.ensures.value (c.has_dent.ensures.0 c.loop-chain-test.true) in
     trim_step _ _ _ _ c.loop-chain.invariant dent c.pop.ensures.rest
 
 pub returns-clause-turns : goal.returns-clause-turns
-returns-clause-turns c =
+returns-clause-turns g c =
     trim_turns _ _ _ _ c.loop-chain.invariant
     (λ dent.
     let yes : c.has_dent.result ≡ true = c.has_dent.ensures.1 (subst (λ (z : List Pt). HasDent z c.args.next.now) (sym c.as_slice.ensures.value) dent) in

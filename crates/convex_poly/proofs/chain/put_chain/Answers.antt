@@ -8,7 +8,7 @@ use Rattle.convex_poly.proofs.ChainSteps.{chain_more, front_few, whole_chain, al
 use Rattle.convex_poly.proofs.chain.put_chain.Goals as goal
 
 pub loop-p-preserved : goal.loop-p-preserved
-loop-p-preserved c =
+loop-p-preserved g c =
     let points : List Pt = c.args.points.now in
     let n : ℕ = c.loop-p.p-index in
     let next : Pt = get_or points n origin in
@@ -22,5 +22,5 @@ loop-p-preserved c =
       chain = chain_more points chain new next n inside (same_index points n n origin next inside refl) c.loop-p.invariant.chain c.extend.ensures.front c.extend.ensures.turns c.extend.ensures.side;
     }
 
-pub returns : goal.returns
-returns c kx ky r = whole_chain kx ky c.args.points.now c.loop-p.chain.items c.loop-p.p-index (omega (arith, c.loop-p-test.false)) (c.loop-p.invariant.chain kx ky r)
+pub returns-clause-chain : goal.returns-clause-chain
+returns-clause-chain g c kx ky r = whole_chain kx ky c.args.points.now c.loop-p.chain.items c.loop-p.p-index (omega (arith, c.loop-p-test.false)) (c.loop-p.invariant.chain kx ky r)

@@ -5,7 +5,7 @@ use Rattle.convex_poly.specs.Chains.{Rising, IsChain}
 use Rattle.convex_poly.proofs.chain.put_chain.Given as goal
 
 abbrev pub invariant-loop-p : goal.invariant-loop-p
-invariant-loop-p l = record {
+invariant-loop-p g l = record {
   few : length l.chain.items ≤ l.p-index;
   positions : AllByRecursion IsPosition l.chain.items;
   chain : (kx ky : ℤ) → Rising kx ky l.points → IsChain kx ky (take l.p-index l.points) l.chain.items;
