@@ -1,6 +1,8 @@
 -- Which cells hold a point.
-use Rattle.std.proofs.Common.{ℕ, ◌<◌, ◌≤◌, List, length, nat_abs, arith}
+use Rattle.std.proofs.Common.{◌≡◌, ℕ, ◌<◌, ◌≤◌, List, length, nat_abs, subst, arith}
 use Rattle.std.proofs.lemmas.Int.{ints}
+use Rattle.std.proofs.lemmas.Option.{slice_get-get_or}
+use Rattle.std.specs.Prelude.{◌↔◌, Some, slice_get, slice_index_or}
 use lib.IntN.{ℤ, pos, negsuc}
 use lib.Signed.{◌≤ℤ◌}
 use Rattle.spot_terms.specs.Cells.{Lane, cells, corners_of}
@@ -15,7 +17,7 @@ use Rattle.lanelets.specs.Holding.{HoldsAt}
 use Rattle.spot_terms.specs.Routes.{IsStartCell}
 use Rattle.lanelets.specs.Made.{IsPlaced}
 use Rattle.lanelets.proofs.NumberLists.{lists_as}
-use Rattle.lanelets.proofs.Places.{item_at, partner_at, place_below, same_lengths}
+use Rattle.lanelets.proofs.Places.{item_at, partner_at, place_below, same_at, same_lengths}
 
 abbrev most : ℤ
 most = pos 40000000000000
@@ -42,6 +44,12 @@ hull_position corners p poly h =
       y = between p.y (hull_y_at_least least corners p (all_map IsPosition (λ (u : Pt). least ≤ℤ u.y) (λ u i. at_least u.y i.y) corners all) h)
           (hull_y_at_most most corners p (all_map IsPosition (λ (u : Pt). u.y ≤ℤ most) (λ u i. at_most u.y i.y) corners all) h);
     }
+
+-- the cell that was read
+pub holds_read : (made : List Placed) (p : Pt) (k : ℕ) (x : Placed) → k < length made → (HoldsAt made p k ↔ InHull (slice_index_or made k x).cell.poly p)
+holds_read made p k x low =
+    let at : slice_get made k ≡ Some (slice_index_or made k x) = slice_get-get_or made k x low in
+    ((λ h. subst (λ (y : Placed). InHull y.cell.poly p) (same_at made k h.0 (slice_index_or made k x) h.1 at) h.2), (λ h. (slice_index_or made k x, at, h)))
 
 pub holding_all : (made : List Placed) (p : Pt) (n : ℕ) (xs : List ℕ) → length made ≤ n → Lists (λ k. (k < n) × HoldsAt made p k) xs → Lists (HoldsAt made p) xs
 holding_all made p n xs h = lists_as (λ k. (k < n) × HoldsAt made p k) (HoldsAt made p) xs (λ k q. q.1) (λ k q. (let low = place_below made k q.0 q.1 in omega (arith, low, h), q))

@@ -19,5 +19,6 @@ pub mod Places
 pub mod RowLists
 pub mod SideLaws
 pub mod Sides
+pub mod SpanLaws
 pub mod StepLists
 pub mod WidthLists

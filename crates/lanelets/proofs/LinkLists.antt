@@ -12,7 +12,7 @@ use Rattle.std.specs.List.{AllByRecursion, list_any, position, IsDistinct}
 use Rattle.std.specs.Map.{keys_of}
 use Rattle.std.specs.Option.{is_some, option_map}
 use Rattle.std.specs.Prelude.{◌↔◌, Some, None, slice_get}
-use Rattle.spot_terms.specs.Cells.{Lane, follows}
+use Rattle.spot_terms.specs.Cells.{Lane}
 use Rattle.spot_terms.specs.Lists.{Includes, Pairwise}
 use Rattle.spot_terms.specs.declared.scenario.RawLane.{RawLane}
 use Rattle.spot_terms.proofs.ListLemmas.{all_included, includes_back, includes_either, includes_front}

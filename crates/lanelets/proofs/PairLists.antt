@@ -5,7 +5,7 @@ use Rattle.std.proofs.lemmas.Option.{slice_get_within}
 use Rattle.std.specs.List.{list_any}
 use Rattle.std.specs.Prelude.{Some, slice_get}
 use Rattle.spot_terms.specs.Cells.{Lane, NetCell}
-use Rattle.spot_terms.specs.Lists.{Includes, Lists}
+use Rattle.spot_terms.specs.Lists.{Includes}
 use Rattle.spot_terms.specs.Network.{IsSide, Overlaps, lane_of}
 use Rattle.spot_terms.specs.declared.network.Origin.{Origin}
 use Rattle.spot_terms.specs.declared.network.Origin.TheVariants.{Part, Bridge}

@@ -12,4 +12,5 @@ pub mod Listing
 pub mod Made
 pub mod Nearby
 pub mod Pieces
+pub mod Spans
 pub mod Steps

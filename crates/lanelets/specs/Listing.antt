@@ -1,5 +1,5 @@
 -- Lists of numbers that grow, and rows turned round.
-use Rattle.std.specs.Prelude.{◌≡◌, ◌⊎◌, ◌↔◌, ℕ, ◌<◌, ◌≤◌, List, [], ◌∷◌, Some, slice_get, length}
+use Rattle.std.specs.Prelude.{◌≡◌, ◌⊎◌, ◌↔◌, ℕ, ◌<◌, ◌≤◌, List, Some, slice_get, length}
 use Rattle.std.specs.List.{AllByRecursion}
 use Rattle.spot_terms.specs.Lists.{Includes, Lists, Rises}
 

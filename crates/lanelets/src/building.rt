@@ -20,6 +20,7 @@ use crate::links::{Links, links_of};
 use crate::making::add_lanes;
 use crate::nearby::nearby_of;
 use crate::network::Network;
+use crate::spans::spans_of;
 use crate::widths::first_wide;
 use indexmap::IndexMap;
 use spot_terms::RawLane;
@@ -28,39 +29,44 @@ use std::alloc::{AllocError, Global};
 /// How many cells a network may have.
 const MOST_CELLS: u64 = 100_000;
 
-// All cells.
+// All cells, of which there are `count`.
 fn cells_of(
     alloc: Global,
     lanes: &IndexMap<u32, RawLane>,
     links: &Links,
+    count: u64,
 ) -> Result<Vec<Placed>, AllocError>
     requires buildable { AreBuildable lanes.now.entries }
     requires links { AreLinks lanes.now.entries links.now }
+    requires count { count ≡ length (cells lanes.now.entries) }
     ensures { IfOk result (λ made. Pairwise (IsPlaced lanes.now.entries) (cells lanes.now.entries) made.items) }
 {
-    let mut made = Vec::new(alloc);
+    let mut made = Vec::with_capacity(alloc, count as usize)?;
     add_lanes(&mut made, lanes)?;
     add_bridges(&mut made, lanes, links)?;
     Ok(made)
 }
 
-// The network of lanelets with few enough cells.
+// The network of lanelets with so many cells.
 fn network_of(
     alloc: Global,
     lanes: &IndexMap<u32, RawLane>,
     links: &Links,
+    count: u64,
 ) -> Result<Network, AllocError>
     requires buildable { AreBuildable lanes.now.entries }
     requires links { AreLinks lanes.now.entries links.now }
+    requires count { count ≡ length (cells lanes.now.entries) }
     requires few { length (cells lanes.now.entries) ≤ 100_000 }
     ensures { IfOk result (λ network. network ≡ lanes.now.entries) }
 {
-    let cells = cells_of(alloc, lanes, links)?;
+    let cells = cells_of(alloc, lanes, links, count)?;
     let kept = kept_lanes(alloc, lanes)?;
     let ahead = ahead_of(alloc, lanes, links, &cells)?;
     let nearby = nearby_of(alloc, lanes, &cells)?;
     let classes = classes_of(alloc, &cells, &kept, &nearby)?;
-    Ok(Network::of(lanes, cells, kept, ahead, classes))
+    let spans = spans_of(alloc, &cells)?;
+    Ok(Network::of(lanes, cells, spans, kept, ahead, classes))
 }
 
 /// The network of lanelets, which are kept by their ids in document order.
@@ -82,7 +88,7 @@ pub fn build(alloc: Global, lanes: &IndexMap<u32, RawLane>) -> Result<Network, N
     if let Some(id) = first_wide(lanes) {
         return Err(NetFault::LaneTooWide(id));
     }
-    match network_of(alloc, lanes, &links) {
+    match network_of(alloc, lanes, &links, count) {
         Ok(network) => Ok(network),
         Err(_) => Err(NetFault::Memory),
     }

@@ -21,6 +21,7 @@ mod pairs;
 mod piece;
 mod portals;
 mod search;
+mod spans;
 mod steps;
 mod widths;
 

@@ -7,6 +7,7 @@ use crate::classes::Classes;
 use crate::kept::{KeptLane, are_side_cells};
 use crate::numbers::{Numbers, has_number, list_at};
 use crate::search::{CellList, cells_holding};
+use crate::spans::Span;
 use indexmap::IndexMap;
 use spot_terms::{Pt, RawLane};
 use std::alloc::{AllocError, Global};
@@ -18,6 +19,7 @@ use std::snapshot::Snapshot;
 pub struct Network {
     built_from: Snapshot<IndexMap<u32, RawLane>>,
     cells: Vec<Placed>,
+    spans: Vec<Span>,
     lanes: Vec<KeptLane>,
     ahead: Vec<Numbers>,
     classes: Classes,
@@ -32,7 +34,7 @@ impl Model for Network {
 
     ghost view = { λ n. n.built_from.value.entries };
 
-    ghost invariant = { λ n. IsBuilt n.built_from.value.entries n.cells.items n.lanes.items n.ahead.items n.classes };
+    ghost invariant = { λ n. IsBuilt n.built_from.value.entries n.cells.items n.spans.items n.lanes.items n.ahead.items n.classes };
 }
 
 impl Network {
@@ -43,21 +45,23 @@ impl Network {
     ghost use Rattle.spot_terms.specs.Routes.{IsStartCell};
     ghost use Rattle.spot_terms.specs.Lists.{Lists};
 
-    // The network of lanelets with these cells, with what is kept of the lanelets, the cells ahead of each, and
-    // their classes.
+    // The network of lanelets with these cells and their spans, with what is kept of the lanelets, the cells ahead of
+    // each, and their classes.
     pub(crate) fn of(
         lanes: &IndexMap<u32, RawLane>,
         cells: Vec<Placed>,
+        spans: Vec<Span>,
         kept: Vec<KeptLane>,
         ahead: Vec<Numbers>,
         classes: Classes,
     ) -> Network
-        requires { IsBuilt lanes.now.entries cells.items kept.items ahead.items classes }
+        requires { IsBuilt lanes.now.entries cells.items spans.items kept.items ahead.items classes }
         ensures { result ≡ lanes.now.entries }
     {
         Network {
             built_from: Snapshot::of(lanes),
             cells,
+            spans,
             lanes: kept,
             ahead,
             classes,
@@ -117,7 +121,7 @@ impl Network {
     pub fn cells_at(&self, alloc: Global, p: Pt) -> Result<CellList, AllocError>
         ensures { IfOk result (λ list. Lists (IsStartCell self.now p) list) }
     {
-        let list = cells_holding(alloc, &self.cells, p)?;
+        let list = cells_holding(alloc, &self.cells, &self.spans, p)?;
         Ok(list)
     }
 }

@@ -5,8 +5,10 @@ ghost use Rattle.spot_terms.specs.Hull.{InHull};
 ghost use Rattle.convex_poly.specs.Polygons.{IsPosition};
 ghost use Rattle.spot_terms.specs.Lists.{Lists};
 ghost use Rattle.lanelets.specs.Holding.{HoldsAt};
+ghost use Rattle.lanelets.specs.Spans.{AreSpans, IsSpanOf};
 
 use crate::cell::Placed;
+use crate::spans::{Span, covers};
 use convex_poly::Poly;
 use spot_terms::Pt;
 use std::alloc::{AllocError, Global};
@@ -50,7 +52,7 @@ fn is_position(p: Pt) -> bool
 }
 
 // Whether a polygon holds a point.
-fn holds(poly: &Poly, p: Pt) -> bool
+fn contains(poly: &Poly, p: Pt) -> bool
     ensures { IsTrue result ↔ InHull poly.now p }
 {
     let _ = poly.corners();
@@ -60,14 +62,28 @@ fn holds(poly: &Poly, p: Pt) -> bool
     poly.contains(p)
 }
 
+// Whether a polygon holds a point, by its span first.
+fn holds(poly: &Poly, span: &Span, p: Pt) -> bool
+    requires { IsSpanOf poly.now span.now }
+    ensures { IsTrue result ↔ InHull poly.now p }
+{
+    covers(span, &p) && contains(poly, p)
+}
+
 /// The numbers of the cells that hold a point.
-pub(crate) fn cells_holding(alloc: Global, cells: &[Placed], p: Pt) -> Result<CellList, AllocError>
-    requires { length cells.now ≤ 100_000 }
+pub(crate) fn cells_holding(
+    alloc: Global,
+    cells: &[Placed],
+    spans: &[Span],
+    p: Pt,
+) -> Result<CellList, AllocError>
+    requires few { length cells.now ≤ 100_000 }
+    requires spans { AreSpans cells.now spans.now }
     ensures { IfOk result (λ list. Lists (HoldsAt cells.now p) list) }
 {
     let mut list = Vec::new(alloc);
-    for (c, placed) in cells.iter().enumerate() {
-        if holds(&placed.cell.poly, p) {
+    for (c, span) in spans.iter().enumerate() {
+        if holds(&cells[c].cell.poly, span, p) {
             list.push(c as u32)?;
         }
     }

@@ -7,5 +7,5 @@ pub returns : goal.returns
 unfolding cells
 returns c =
     let lanes = c.args.lanes.now.entries in
-    adds_all (IsPlaced lanes) (cells lanes) c.new-made.result.items c.add_bridges.new.made.items c.new-made.ensures.items
-    (adds_more (IsPlaced lanes) (lane_cells 0 lanes) (bridges_from lanes 0 lanes) c.new-made.result.items c.add_lanes.new.made.items c.add_bridges.new.made.items c.in_ok-add_lanes.ensures c.in_ok-add_bridges.ensures)
+    adds_all (IsPlaced lanes) (cells lanes) c.in_ok-made.made.items c.add_bridges.new.made.items c.in_ok-made.ensures.items
+    (adds_more (IsPlaced lanes) (lane_cells 0 lanes) (bridges_from lanes 0 lanes) c.in_ok-made.made.items c.add_lanes.new.made.items c.add_bridges.new.made.items c.in_ok-add_lanes.ensures c.in_ok-add_bridges.ensures)

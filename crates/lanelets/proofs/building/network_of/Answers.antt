@@ -26,6 +26,7 @@ of-requires c =
       few = c.requires.few;
       placed = c.in_ok-cells.ensures;
       inside = made_inside lanes c.in_ok-cells.cells.items c.in_ok-cells.ensures;
+      spans_are = rw c.deref-5.ensures.value at c.in_ok-spans.ensures;
       kept_is = c.in_ok-kept.ensures;
       ahead = ahead_as lanes c.in_ok-cells.cells.items c.in_ok-ahead.ahead.items c.in_ok-cells.ensures ahead;
       beside = classes_as lanes c.in_ok-cells.cells.items c.in_ok-classes.classes c.in_ok-cells.ensures classes;

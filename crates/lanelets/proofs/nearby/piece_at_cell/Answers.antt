@@ -1,5 +1,5 @@
 use Rattle.std.proofs.Common.{ℕ, length, sym, subst}
-use Rattle.spot_terms.specs.declared.network.Origin.TheVariants.{Part, Bridge}
+use Rattle.spot_terms.specs.declared.network.Origin.TheVariants.{Part}
 use Rattle.lanelets.specs.Nearby.{IsPieceNumber}
 use Rattle.lanelets.specs.Steps.{net_of}
 use Rattle.lanelets.proofs.NearbyLaws.{part_number, bridge_number}

@@ -1,8 +1,8 @@
-use Rattle.std.proofs.Common.{◌≡◌, ◌<◌, ℕ, List, length, sym, ap, subst, arith}
+use Rattle.std.proofs.Common.{◌≡◌, ℕ, List, length, sym, ap, subst, arith}
 use Rattle.std.specs.Prelude.{Some, slice_get}
 use Rattle.spot_terms.specs.declared.network.Origin.TheVariants.{Part}
 use Rattle.lanelets.specs.Nearby.{IsPieceNumber}
-use Rattle.lanelets.specs.Steps.{net_of, IsInside}
+use Rattle.lanelets.specs.Steps.{net_of}
 use Rattle.lanelets.proofs.NearbyLaws.{parts_reach, parts_below, pieces_below}
 use Rattle.lanelets.proofs.PairLists.{net_many, side_piece}
 use Rattle.lanelets.proofs.StepLists.{origin_inside}

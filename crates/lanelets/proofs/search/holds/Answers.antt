@@ -1,6 +1,7 @@
-use Rattle.lanelets.proofs.Holds.{hull_position}
+use Rattle.lanelets.proofs.SpanLaws.{span_has}
 use Rattle.lanelets.proofs.search.holds.Goals as goal
 
-pub returns-then-not-is_position : goal.returns-then-not-is_position
-returns-then-not-is_position c =
-    ((λ t. absurd (let q : ⊥ = cc in q)), (λ h. absurd (let t = c.is_position.ensures.1 (hull_position c.args.poly.now c.args.p c.corners.ensures.polygon h) in let f = c.if-not-is_position.true in let q : ⊥ = cc in q)))
+pub returns-else-covers : goal.returns-else-covers
+returns-else-covers c =
+    let f = c.if-covers.false in
+    ((λ t. absurd (let q : ⊥ = cc in q)), (λ h. c.covers.ensures.1 (span_has c.args.poly.now c.args.span.now c.args.p c.requires h)))

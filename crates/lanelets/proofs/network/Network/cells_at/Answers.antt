@@ -7,10 +7,13 @@ use Rattle.lanelets.proofs.BuiltCells.{as_many}
 use Rattle.lanelets.proofs.Holds.{holding_is}
 use Rattle.lanelets.proofs.network.Network.cells_at.Goals as goal
 
-pub cells_holding-requires : goal.cells_holding-requires
-cells_holding-requires c =
+pub cells_holding-requires-clause-few : goal.cells_holding-requires-clause-few
+cells_holding-requires-clause-few c =
     let many = as_many c.self.inside.built_from.value.entries c.self.inside.cells.items c.self.invariant.placed in
     let same = ap length c.deref.ensures.value in let few = c.self.invariant.few in omega (arith, many, same, few)
+
+pub cells_holding-requires-clause-spans : goal.cells_holding-requires-clause-spans
+cells_holding-requires-clause-spans c = rw (c.deref.ensures.value, c.deref-2.ensures.value) c.self.invariant.spans_are
 
 pub returns : goal.returns
 returns c =
