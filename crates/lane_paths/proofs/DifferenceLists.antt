@@ -31,10 +31,6 @@ each_room old now p b i room h e k =
     below : (m n : ℕ) → m < n → m ≤ n
     below m n l = omega arith
 
--- past the last place all are in
-pub each_all : (old now : List Pt) (p : Pt) (b : List Pt) (i : ℕ) → length b ≤ i → now ≡ old ++ each_minus p (take i b) → now ≡ old ++ each_minus p b
-each_all old now p b i h e = e ∙ ap (λ (z : List Pt). old ++ each_minus p z) (take_all i b h)
-
 -- ---- a list against a list
 
 -- joined lists and lengths
@@ -53,18 +49,24 @@ differences_more before now a b i d h e f =
     ∙ ap (λ (z : List Pt). differences (take i a) b ++ z) (sym (append-nil (each_minus (slice_index_or a i d) b)))
     ∙ sym (differences-append (take i a) (slice_index_or a i d ∷ []) b) ∙ ap (λ (z : List Pt). differences z b) (sym (take_more a i d h))
 
--- room for those of one more point, of at most 20 and 20
-pub differences_room : (now a b : List Pt) (i : ℕ) → i < length a → length a ≤ 20 → length b ≤ 20 → now ≡ differences (take i a) b → length now + length b ≤ 400
-differences_room now a b i h few_a few_b e =
+-- room for those of one more point
+pub differences_room : (now a b : List Pt) (i room : ℕ) → i < length a → length a * length b ≤ room → now ≡ differences (take i a) b → length now + length b ≤ room
+differences_room now a b i room h few e =
     let so_far : length now ≡ i * length b = ap length e ∙ length-differences (take i a) b ∙ ap (λ (n : ℕ). n * length b) (length-take-le i a (below i (length a) h)) in
-    let all : (i + 1) * length b ≤ 20 * 20 = grow (i + 1) 20 (length b) 20 (omega (arith, h, few_a)) few_b in
-    omega (arith, so_far, all)
+    let all : (i + 1) * length b ≤ length a * length b = grow (i + 1) (length a) (length b) (omega (arith, h)) in
+    omega (arith, so_far, all, few)
   where
     below : (m n : ℕ) → m < n → m ≤ n
     below m n l = omega arith
 
-    grow : (x y u v : ℕ) → x ≤ y → u ≤ v → x * u ≤ y * v
-    grow x y u v k l = grind (arith, mul-le-mul)
+    grow : (x y u : ℕ) → x ≤ y → x * u ≤ y * u
+    grow x y u k = grind (arith, mul-le-mul)
+
+-- some ways from some points to some points
+pub differences_some : (a b : List Pt) → 0 < length a → 0 < length b → 0 < length (differences a b)
+differences_some a b h k =
+    let all : 1 * 1 ≤ length a * length b = mul-le-mul h k in
+    omega (arith, all, length-differences a b)
 
 -- past the last place all are in
 pub differences_all : (now a b : List Pt) (i : ℕ) → length a ≤ i → now ≡ differences (take i a) b → now ≡ differences a b

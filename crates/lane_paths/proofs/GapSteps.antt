@@ -1,5 +1,5 @@
 -- What the tests of the gap tell.
-use Rattle.std.proofs.Common.{◌≡◌, ◌∙◌, ℕ, ◌≤◌, ◌<◌, arith, refl, sym, ap, subst, List, [], ◌∷◌, length, inl, inr, ℤ, ◌-ℤ◌, w64, to_z, of_z}
+use Rattle.std.proofs.Common.{◌≡◌, ℕ, ◌≤◌, ◌<◌, arith, refl, sym, subst, List, [], ◌∷◌, length, inl, inr, ℤ, ◌-ℤ◌, w64, to_z, of_z}
 use Rattle.std.proofs.lemmas.Int.{ints}
 use Rattle.std.specs.Prelude.{nat_abs}
 use Rattle.std.specs.List.{AllByRecursion}
@@ -41,14 +41,6 @@ near_ways a b p h i q j = near_small p q (λ f. h (p, q, i, j, f))
 pub near_differences : (a b ways : List Pt) → ways ≡ differences a b → (AreFar a b → ⊥) → AllByRecursion IsSmall ways
 near_differences a b ways e h = subst (AllByRecursion IsSmall) (sym e) (all_of IsSmall (differences a b) (differences_hold IsSmall a b (λ p q i j. near_ways a b p h i q j)))
 
--- ---- the corners that a call hands over are those of the polygon
-
-pub far_of : (a b us vs : List Pt) → us ≡ a → vs ≡ b → AreFar us vs → AreFar a b
-far_of a b us vs e f h = subst (λ (l : List Pt). AreFar l b) e (subst (AreFar us) f h)
-
-pub ways_of : (a b us vs ways : List Pt) → us ≡ a → vs ≡ b → ways ≡ differences us vs → ways ≡ differences a b
-ways_of a b us vs ways e f h = h ∙ ap (differences us) f ∙ ap (λ (l : List Pt). differences l b) e
-
 -- a polygon has a corner
 some_corners : (corners : List Pt) → IsPolygon corners → 0 < length corners
 some_corners [] h = absurd h.convex
@@ -64,6 +56,10 @@ gap_far a b f = inl (f, refl)
 pub gap_common : (a b : List Pt) → IsPolygon a → IsPolygon b → (AreFar a b → ⊥) → (AreDisjoint a b → ⊥) → IsGap a b 0
 gap_common a b is_a is_b near h = inr (near, gap_meets a b (elim (disjoint_or_meets a b (some_corners a is_a) (some_corners b is_b)) [ inl d ↦ absurd (h d) | inr m ↦ m ]))
 
--- where they have none, it is the root of the least span
-pub gap_least : (a b ways : List Pt) (n w : ℕ) → ways ≡ differences a b → (AreFar a b → ⊥) → AreDisjoint a b → IsLeastSpan ways n → IsRootFloor n w → IsGap a b w
-gap_least a b ways n w e near d s r = inr (near, gap_apart a b n w (λ m. let c = meets_common a b m in d c.p c.whole c.in_a c.in_b) (subst (λ (l : List Pt). IsLeastSpan l n) e s) r)
+-- where they have none, it is the root of the least span; the corners that a call hands over are those of the polygon
+pub gap_least : (a b us vs : List Pt) (n w : ℕ) → us ≡ a → vs ≡ b → (AreFar a b → ⊥) → AreDisjoint a b → IsLeastSpan (differences us vs) n → IsRootFloor n w → IsGap a b w
+gap_least a b us vs n w e f near d s r = inr (
+  near,
+  gap_apart a b n w (λ m. let c = meets_common a b m in d c.p c.whole c.in_a c.in_b)
+      (subst (λ (l : List Pt). IsLeastSpan (differences a l) n) f (subst (λ (l : List Pt). IsLeastSpan (differences l vs) n) e s)) r,
+)

@@ -1,13 +1,19 @@
 -- Steps of the loops that find the least span.
-use Rattle.std.proofs.Common.{◌≡◌, ℕ, ◌+◌, ◌≤◌, ◌<◌, min, arith, refl, sym, subst, List, [], ◌∷◌, take, drop, length, slice_index_or, ◌⊎◌, inl, inr}
+use Rattle.std.proofs.Common.{◌≡◌, ℕ, ◌+◌, ◌*◌, ◌≤◌, ◌<◌, min, arith, refl, sym, subst, List, [], ◌∷◌, take, drop, length, slice_index_or, ◌⊎◌, inl, inr}
+use Rattle.std.proofs.lemmas.Int.{ints}
 use Rattle.std.proofs.lemmas.List.{take-append-drop, take_more, take_all}
-use Rattle.std.proofs.Math.Nat.{min-le_left, min-le_right, le-min}
+use Rattle.std.specs.List.{AllByRecursion}
+use Rattle.std.specs.Prelude.{nat_abs}
+use lib.IntN.{ℤ, pos, ◌+ℤ◌, ◌*ℤ◌}
+use lib.Signed.{◌≤ℤ◌}
+use Rattle.convex_poly.specs.Pivots.{along}
 use Rattle.convex_poly.proofs.Places.{order}
+use Rattle.convex_poly.proofs.Wide.{product_within}
 use Rattle.spot_terms.specs.declared.plain.Pt.{Pt}
 use Rattle.spot_terms.specs.Lists.{Includes}
-use Rattle.spot_terms.proofs.ListLemmas.{includes_at, includes_front, includes_back, includes_either, includes_taken}
-use Rattle.lane_paths.specs.Spans.{StaysOff, IsSpan, IsLesserSpan, IsLeastSpan}
-use Rattle.lane_paths.proofs.Spans.{off_down, off_swap}
+use Rattle.spot_terms.proofs.ListLemmas.{all_of, includes_at, includes_front, includes_back, includes_either, includes_taken}
+use Rattle.lane_paths.specs.Spans.{IsSmall, StaysOff, IsSpan, IsLeastSize, IsLesserSpan, IsLeastSpan, ReachesTo}
+use Rattle.lane_paths.proofs.Spans.{off_down, off_first, off_swap, span_first}
 
 -- ---- one way against the others
 
@@ -22,56 +28,118 @@ one_more u ways i d h j = subst (λ (l : List Pt). Includes l u) (sym (take_more
   | inr e ↦ includes_back (take i ways) (slice_index_or ways i d ∷ []) u (inl e)
 ])
 
--- the lesser of the least so far and the span of the next
-pub lesser_more : (least : ℕ) (u : Pt) (ways : List Pt) (i : ℕ) (d : Pt) (before w now : ℕ) → i < length ways → IsLesserSpan least u (take i ways) before → IsSpan u (slice_index_or ways i d) w
-    → now ≡ min before w → IsLesserSpan least u (take (i + 1) ways) now
-lesser_more least u ways i d before w now h k s is = record {
-  at_most = omega (arith, k.at_most, low_before);
+-- where the way stays off as far as the number, it is the number itself
+pub lesser_same : (least : ℕ) (u v : Pt) → StaysOff u v least → IsLesserSpan least u (v ∷ []) least
+lesser_same least u v o = record { at_most = omega arith; all = λ z i. only z i; one = inl refl }
+  where
+    only : (z : Pt) → Includes (v ∷ []) z → StaysOff u z least
+    only z (inl e) = subst (λ (y : Pt). StaysOff u y least) (sym e) o
+    only z (inr i) = absurd i
+
+-- the lesser of the number and the span
+pub lesser_span_is : (least : ℕ) (u v : Pt) (w now : ℕ) → IsSpan u v w → now ≡ min least w → IsLesserSpan least u (v ∷ []) now
+lesser_span_is least u v w now s is = elim (order least w) [
+  | inl l ↦ subst (λ (n : ℕ). IsLesserSpan least u (v ∷ []) n) (first least w now l is) (lesser_same least u v (off_down u v w least s.holds (below least w l)))
+  | inr g ↦ subst (λ (n : ℕ). IsLesserSpan least u (v ∷ []) n) (second least w now g is) (record { at_most = g; all = λ z i. only z i; one = inr (v, inl refl, s) })
+]
+  where
+    below : (a b : ℕ) → a < b → a ≤ b
+    below a b h = omega arith
+
+    first : (a b m : ℕ) → a < b → m ≡ min a b → a ≡ m
+    first a b m l e = grind arith
+
+    second : (a b m : ℕ) → b ≤ a → m ≡ min a b → b ≡ m
+    second a b m l e = grind arith
+
+    only : (z : Pt) → Includes (v ∷ []) z → StaysOff u z w
+    only z (inl e) = subst (λ (y : Pt). StaysOff u y w) (sym e) s.holds
+    only z (inr i) = absurd i
+
+-- one more way, against which the least so far was held
+pub lesser_then : (least : ℕ) (u : Pt) (ways : List Pt) (i : ℕ) (d : Pt) (before now : ℕ) → i < length ways → IsLesserSpan least u (take i ways) before → IsLesserSpan before u (slice_index_or ways i d ∷ []) now → IsLesserSpan least u (take (i + 1) ways) now
+lesser_then least u ways i d before now h k s = record {
+  at_most = let l = k.at_most in let m = s.at_most in omega (arith, l, m);
   all = λ v j. elim (includes_taken ways i d v h j) [
-    | inl front ↦ off_down u v before now (k.all v front) low_before
-    | inr e ↦ subst (λ (z : Pt). StaysOff u z now) (sym e) (off_down u (slice_index_or ways i d) w now s.holds low_w)
+    | inl front ↦ off_down u v before now (k.all v front) s.at_most
+    | inr e ↦ s.all v (inl e)
   ];
-  one = elim (either before w now is) [
+  one = elim s.one [
     | inl e ↦ subst (λ (n : ℕ). (n ≡ least) ⊎ ((v : Pt) × Includes (take (i + 1) ways) v × IsSpan u v n)) (sym e) (elim k.one [
       | inl f ↦ inl f
       | inr f ↦ inr (f.0, one_more f.0 ways i d h (inl f.1), f.2)
     ])
-    | inr e ↦ inr (slice_index_or ways i d, one_more (slice_index_or ways i d) ways i d h (inr refl), subst (IsSpan u (slice_index_or ways i d)) (sym e) s)
+    | inr f ↦ inr (f.0, one_more f.0 ways i d h (here f.0 f.1), f.2)
   ];
 }
   where
-    low_before : now ≤ before
-    low_before = omega (arith, is, min-le_left before w)
-
-    low_w : now ≤ w
-    low_w = omega (arith, is, min-le_right before w)
-
-    either : (a b m : ℕ) → m ≡ min a b → (m ≡ a) ⊎ (m ≡ b)
-    either a b m e = elim (order a b) [ inl l ↦ inl (omega (arith, e, le-min (at_most a) (below a b l), min-le_left a b)) | inr g ↦ inr (omega (arith, e, le-min g (at_most b), min-le_right a b)) ]
-      where
-        at_most : (n : ℕ) → n ≤ n
-        at_most n = omega arith
-
-        below : (a b : ℕ) → a < b → a ≤ b
-        below a b h = omega arith
+    here : (v : Pt) → Includes (slice_index_or ways i d ∷ []) v → Includes (take i ways) v ⊎ (v ≡ slice_index_or ways i d)
+    here v (inl e) = inr e
+    here v (inr j) = absurd j
 
 -- past the last place all are looked at
 pub lesser_all : (least : ℕ) (u : Pt) (ways : List Pt) (i w : ℕ) → length ways ≤ i → IsLesserSpan least u (take i ways) w → IsLesserSpan least u ways w
 lesser_all least u ways i w h k = subst (λ (l : List Pt). IsLesserSpan least u l w) (take_all i ways h) k
 
+-- ---- the least squared distance of one way
+
+-- what reaches so far reaches less far
+pub reached_down : (w n : ℕ) (v : Pt) → n ≤ w → ReachesTo w v → ReachesTo n v
+reached_down w n v h k = plain w n (along v v) h k
+  where
+    plain : (w n : ℕ) (z : ℤ) → n ≤ w → pos w ≤ℤ z → pos n ≤ℤ z
+    plain w n z h k = omega (arith, ints)
+
+-- w is the squared distance of one of the ways from 0, and at most that of the first i
+pub record IsLeastSizeSoFar (ways : List Pt) (i w : ℕ) : Type 0 where
+  pub each : (v : Pt) → Includes (take i ways) v → ReachesTo w v
+  pub one : (v : Pt) × Includes ways v × (pos w ≡ along v v)
+
+-- at first it is that of the first
+pub size_none : (ways : List Pt) (d : Pt) (w : ℕ) → 0 < length ways → pos w ≡ along (slice_index_or ways 0 d) (slice_index_or ways 0 d) → IsLeastSizeSoFar ways 0 w
+size_none ways d w h e = record { each = λ v i. absurd i; one = (slice_index_or ways 0 d, includes_at ways 0 d h, e) }
+
+-- the lesser of the least so far and that of the next
+pub size_more : (ways : List Pt) (i : ℕ) (d : Pt) (before w now : ℕ) → i < length ways → IsLeastSizeSoFar ways i before → pos w ≡ along (slice_index_or ways i d) (slice_index_or ways i d) → now ≡ min before w → IsLeastSizeSoFar ways (i + 1) now
+size_more ways i d before w now h k e is = let m = min_of before w now is in record {
+  each = λ v j. elim (includes_taken ways i d v h j) [
+    | inl front ↦ reached_down before now v m.0 (k.each v front)
+    | inr same ↦ subst (ReachesTo now) (sym same) (reached_down w now (slice_index_or ways i d) m.1 (equal (along (slice_index_or ways i d) (slice_index_or ways i d)) w e))
+  ];
+  one = elim m.2 [
+    | inl old ↦ subst (λ (n : ℕ). (v : Pt) × Includes ways v × (pos n ≡ along v v)) (sym old) k.one
+    | inr new ↦ subst (λ (n : ℕ). (v : Pt) × Includes ways v × (pos n ≡ along v v)) (sym new) (slice_index_or ways i d, includes_at ways i d h, e)
+  ];
+}
+  where
+    equal : (z : ℤ) (w : ℕ) → pos w ≡ z → pos w ≤ℤ z
+    equal z w e = omega (arith, ints)
+
+    min_of : (a b m : ℕ) → m ≡ min a b → (m ≤ a) × (m ≤ b) × ((m ≡ a) ⊎ (m ≡ b))
+    min_of a b m e = grind arith
+
+-- past the last place it is that of all
+pub size_all : (ways : List Pt) (i w : ℕ) → length ways ≤ i → IsLeastSizeSoFar ways i w → IsLeastSize ways w
+size_all ways i w h k = record { each = λ v j. k.each v (subst (λ (l : List Pt). Includes l v) (sym (take_all i ways h)) j); one = k.one }
+
 -- ---- all ways against each other
 
--- w is the span of two of the ways, and no two, of which one is among the first i, come nearer
+-- w is the span of two of the ways, none is nearer, and no two come nearer of which one is among the first i
 pub record IsLeastSoFar (ways : List Pt) (i w : ℕ) : Type 0 where
+  pub reached : (v : Pt) → Includes ways v → ReachesTo w v
   pub all : (u v : Pt) → Includes (take i ways) u → Includes ways v → StaysOff u v w
   pub one : (u v : Pt) × Includes ways u × Includes ways v × IsSpan u v w
 
--- at first it is the span of the first way with itself
-pub least_none : (ways : List Pt) (d : Pt) (w : ℕ) → 0 < length ways → IsSpan (slice_index_or ways 0 d) (slice_index_or ways 0 d) w → IsLeastSoFar ways 0 w
-least_none ways d w h s = record {
+-- at first it is the least squared distance of a way from 0
+pub least_none : (ways : List Pt) (w : ℕ) → IsLeastSize ways w → IsLeastSoFar ways 0 w
+least_none ways w s = record {
+  reached = s.each;
   all = λ u v i j. absurd i;
-  one = (slice_index_or ways 0 d, slice_index_or ways 0 d, includes_at ways 0 d h, includes_at ways 0 d h, s);
+  one = let (v, i, e) = s.one in (v, v, i, i, span_first v v w e (itself (along v v)));
 }
+  where
+    itself : (z : ℤ) → z ≤ℤ z
+    itself z = omega (arith, ints)
 
 -- a way is among the first i, or among the others
 front_or_rest : (ways : List Pt) (i : ℕ) (v : Pt) → Includes ways v → Includes (take i ways) v ⊎ Includes (drop i ways) v
@@ -81,23 +149,46 @@ front_or_rest ways i v j = includes_either (take i ways) (drop i ways) v (subst 
 rest_included : (ways : List Pt) (i : ℕ) (v : Pt) → Includes (drop i ways) v → Includes ways v
 rest_included ways i v j = subst (λ (l : List Pt). Includes l v) (take-append-drop i ways) (includes_back (take i ways) (drop i ways) v j)
 
--- the way at place i against itself and the later ones: against the earlier ones it was looked at before
-pub least_more : (ways : List Pt) (i : ℕ) (d : Pt) (before now : ℕ) → i < length ways → IsLeastSoFar ways i before → IsLesserSpan before (slice_index_or ways i d) (drop i ways) now → IsLeastSoFar ways (i + 1) now
+-- so they reach as far
+pub rest_reached : (ways : List Pt) (i w : ℕ) → ((v : Pt) → Includes ways v → ReachesTo w v) → AllByRecursion (ReachesTo w) (drop i ways)
+rest_reached ways i w h = all_of (ReachesTo w) (drop i ways) (λ v j. h v (rest_included ways i v j))
+
+-- the way at place i against the later ones: against the earlier ones it was looked at before
+pub least_more : (ways : List Pt) (i : ℕ) (d : Pt) (before now : ℕ) → i < length ways → IsLeastSoFar ways i before → IsLesserSpan before (slice_index_or ways i d) (drop (i + 1) ways) now → IsLeastSoFar ways (i + 1) now
 least_more ways i d before now h k s = record {
+  reached = λ v j. reached_down before now v s.at_most (k.reached v j);
   all = λ u v p q. elim (includes_taken ways i d u h p) [
     | inl front ↦ off_down u v before now (k.all u v front q) s.at_most
-    | inr e ↦ subst (λ (z : Pt). StaysOff z v now) (sym e) (here v (front_or_rest ways i v q))
+    | inr e ↦ subst (λ (z : Pt). StaysOff z v now) (sym e) (here v (front_or_rest ways (i + 1) v q))
   ];
   one = elim s.one [
     | inl e ↦ subst (λ (n : ℕ). (u v : Pt) × Includes ways u × Includes ways v × IsSpan u v n) (sym e) k.one
-    | inr f ↦ (slice_index_or ways i d, f.0, includes_at ways i d h, rest_included ways i f.0 f.1, f.2)
+    | inr f ↦ (slice_index_or ways i d, f.0, includes_at ways i d h, rest_included ways (i + 1) f.0 f.1, f.2)
   ];
 }
   where
-    here : (v : Pt) → Includes (take i ways) v ⊎ Includes (drop i ways) v → StaysOff (slice_index_or ways i d) v now
-    here v (inl front) = off_swap v (slice_index_or ways i d) now (off_down v (slice_index_or ways i d) before now (k.all v (slice_index_or ways i d) front (includes_at ways i d h)) s.at_most)
+    itself : (z : ℤ) → z ≤ℤ z
+    itself z = omega (arith, ints)
+
+    at_itself : StaysOff (slice_index_or ways i d) (slice_index_or ways i d) before
+    at_itself = off_first (slice_index_or ways i d) (slice_index_or ways i d) before (k.reached (slice_index_or ways i d) (includes_at ways i d h)) (itself (along (slice_index_or ways i d) (slice_index_or ways i d)))
+
+    here : (v : Pt) → Includes (take (i + 1) ways) v ⊎ Includes (drop (i + 1) ways) v → StaysOff (slice_index_or ways i d) v now
+    here v (inl front) = elim (includes_taken ways i d v h front) [
+      | inl j ↦ off_swap v (slice_index_or ways i d) now (off_down v (slice_index_or ways i d) before now (k.all v (slice_index_or ways i d) j (includes_at ways i d h)) s.at_most)
+      | inr e ↦ subst (λ (z : Pt). StaysOff (slice_index_or ways i d) z now) (sym e) (off_down (slice_index_or ways i d) (slice_index_or ways i d) before now at_itself s.at_most)
+    ]
     here v (inr rest) = s.all v rest
 
 -- past the last place all are looked at
 pub least_all : (ways : List Pt) (i w : ℕ) → length ways ≤ i → IsLeastSoFar ways i w → IsLeastSpan ways w
 least_all ways i w h k = record { all = λ u v p q. k.all u v (subst (λ (l : List Pt). Includes l u) (sym (take_all i ways h)) p) q; one = k.one }
+
+-- ---- sizes
+
+-- what a small way reaches to
+pub small_reach : (v : Pt) (n : ℕ) → IsSmall v → ReachesTo n v → n ≤ 2_000_000_000_000_000_000
+small_reach v n h k = plain n (v.x *ℤ v.x) (v.y *ℤ v.y) (product_within v.x v.x 1_000_000_000 1_000_000_000 h.x h.x) (product_within v.y v.y 1_000_000_000 1_000_000_000 h.y h.y) k
+  where
+    plain : (n : ℕ) (s t : ℤ) → nat_abs s ≤ 1_000_000_000 * 1_000_000_000 → nat_abs t ≤ 1_000_000_000 * 1_000_000_000 → pos n ≤ℤ (s +ℤ t) → n ≤ 2_000_000_000_000_000_000
+    plain n s t h k l = omega (arith, ints)

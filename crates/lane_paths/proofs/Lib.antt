@@ -1,4 +1,6 @@
+pub mod BoxLaws
 pub mod Signs
+pub mod GapBounds
 pub mod HullSpans
 pub mod Spans
 pub mod GapLaws

@@ -13,9 +13,9 @@ use Rattle.spot_terms.specs.Lists.{Includes, Lists}
 use Rattle.spot_terms.specs.Network.{IsAhead, within, joins, onto, off}
 use Rattle.spot_terms.specs.Routes.{IsStartCell}
 use Rattle.spot_terms.specs.declared.plain.Pt.{Pt}
-use Rattle.spot_terms.proofs.Gaps.{gap_of_hulls, same_gap}
+use Rattle.spot_terms.proofs.Gaps.{same_gap}
 use Rattle.spot_terms.proofs.Hulls.{hull_flat, hulls_of}
-use Rattle.spot_terms.proofs.ListLemmas.{includes_back, includes_front, includes_taken}
+use Rattle.spot_terms.proofs.ListLemmas.{includes_back, includes_front, includes_itself, includes_taken}
 use Rattle.lanelets.specs.Beside.{IsBeside, here}
 use Rattle.lanelets.proofs.BesideLaws.{beside_join}
 use Rattle.lane_paths.specs.declared.search.Search.{Search}
@@ -54,10 +54,10 @@ waypoint_beside lanes p i c s x (w, l, h) b = (w, leaves_beside lanes p c s i w 
 
 -- ---- one link
 
--- the step is the link to waypoint j
-stepped : (lanes : List Lane) (p : Pt) (i c j : ℕ) (x : Waypoint) (v shape : List Pt) (before after : Search) → IsWaypoint lanes p i c x → Enters lanes p c j v → IsHullOf v shape
+-- the step to points with the hull of waypoint j is the link to it
+stepped : (lanes : List Lane) (p : Pt) (i c j : ℕ) (x : Waypoint) (v shape : List Pt) (before after : Search) → IsWaypoint lanes p i c x → Enters lanes p c j v → AllByRecursion (Includes v) shape → AllByRecursion (InHull shape) v
     → Spreads (StepsTo i j x.shape shape) x.way before after → Spreads (LinksTo lanes p i c j) x.way before after
-stepped lanes p i c j x v shape before after (w, l, h) n k g = spreads_as (StepsTo i j x.shape shape) (LinksTo lanes p i c j) x.way before after g
+stepped lanes p i c j x v shape before after (w, l, h) n among covers g = spreads_as (StepsTo i j x.shape shape) (LinksTo lanes p i c j) x.way before after g
     (λ e (from, to, gap). (
       to,
       (
@@ -67,7 +67,7 @@ stepped lanes p i c j x v shape before after (w, l, h) n k g = spreads_as (Steps
           v = v;
           leaves = subst (λ (z : ℕ). Leaves lanes p c z w) (sym from) l;
           enters = subst (λ (z : ℕ). Enters lanes p c z v) (sym to) n;
-          gap = gap_of_hulls w v x.shape shape e.gap h k gap;
+          gap = same_gap w v x.shape shape e.gap h.covers (hulls_of x.shape w h.among) covers (hulls_of shape v among) gap;
         },
       ),
     ))
@@ -75,19 +75,27 @@ stepped lanes p i c j x v shape before after (w, l, h) n k g = spreads_as (Steps
     let same_w : r.w ≡ w = leaves_one lanes p c c e.from i r.w w r.leaves l from in
     let same_v : r.v ≡ v = enters_one lanes p c e.to j r.v v r.enters n to in
     let is : IsGap w v e.gap = subst (λ (z : List Pt). IsGap z v e.gap) same_w (subst (λ (z : List Pt). IsGap r.w z e.gap) same_v r.gap) in
-    (from, to, same_gap x.shape shape w v e.gap (hulls_of x.shape w h.among) h.covers (hulls_of shape v k.among) k.covers is))
+    (from, to, same_gap x.shape shape w v e.gap (hulls_of x.shape w h.among) h.covers (hulls_of shape v among) covers is))
 
 -- the link to a cell where the route ends
 pub stepped_end : (lanes : List Lane) (p : Pt) (i c : ℕ) (x : Waypoint) (a : NetCell) (shape : List Pt) (before after : Search) → IsWaypoint lanes p i c x → slice_get (cells lanes) c ≡ Some a → IsHullOf (corners_of a) shape
     → Spreads (StepsTo i c x.shape shape) x.way before after → Spreads (LinksTo lanes p i c c) x.way before after
-stepped_end lanes p i c x a shape before after w is k g = stepped lanes p i c c x (corners_of a) shape before after w (to_end a is) k g
+stepped_end lanes p i c x a shape before after w is k g = stepped lanes p i c c x (corners_of a) shape before after w (to_end a is) k.among k.covers g
 
--- the link to an entry
+-- the link to an entry, by its hull
 pub stepped_entry : (lanes : List Lane) (p : Pt) (i c d n : ℕ) (x : Waypoint) (a : NetCell) (entry : Portal) (shape : List Pt) (before after : Search) → n ≡ length (cells lanes) → IsWaypoint lanes p i c x → IsAhead lanes (cells lanes) c d
     → slice_get (cells lanes) d ≡ Some a → entry ≡ a.entry → IsHullOf (entry.0 ∷ entry.1 ∷ []) shape → Spreads (StepsTo i (n + d) x.shape shape) x.way before after → Spreads (LinksTo lanes p i c (entry_at lanes p d)) x.way before after
 stepped_entry lanes p i c d n x a entry shape before after same w s is e k g =
-    stepped lanes p i c (entry_at lanes p d) x (entry_of a) shape before after w (to_entry d a s is) (subst (λ (z : Portal). IsHullOf (z.0 ∷ z.1 ∷ []) shape) e k)
+    let hull : IsHullOf (entry_of a) shape = subst (λ (z : Portal). IsHullOf (z.0 ∷ z.1 ∷ []) shape) e k in
+    stepped lanes p i c (entry_at lanes p d) x (entry_of a) shape before after w (to_entry d a s is) hull.among hull.covers
     (subst (λ (z : ℕ). Spreads (StepsTo i (z + d) x.shape shape) x.way before after) same g)
+
+-- and by its points
+pub stepped_points : (lanes : List Lane) (p : Pt) (i c d n : ℕ) (x : Waypoint) (a : NetCell) (entry : Portal) (before after : Search) → n ≡ length (cells lanes) → IsWaypoint lanes p i c x → IsAhead lanes (cells lanes) c d
+    → slice_get (cells lanes) d ≡ Some a → entry ≡ a.entry → Spreads (StepsTo i (n + d) x.shape (entry.0 ∷ entry.1 ∷ [])) x.way before after → Spreads (LinksTo lanes p i c (entry_at lanes p d)) x.way before after
+stepped_points lanes p i c d n x a entry before after same w s is e g =
+    stepped lanes p i c (entry_at lanes p d) x (entry_of a) (entry_of a) before after w (to_entry d a s is) (includes_itself (entry_of a)) (hulls_of (entry_of a) (entry_of a) (includes_itself (entry_of a)))
+    (subst (λ (z : Portal). Spreads (StepsTo i (entry_at lanes p d) x.shape (z.0 ∷ z.1 ∷ [])) x.way before after) e (subst (λ (z : ℕ). Spreads (StepsTo i (z + d) x.shape (entry.0 ∷ entry.1 ∷ [])) x.way before after) same g))
 
 -- ---- the links in a cell
 

@@ -53,3 +53,7 @@ le_is r s x y h k e f g = omega (arith, ints)
 
 pub ge_is : (r s x y : ℤ) → nat_abs r ≤ 2_000_000_000_000_000_000 → nat_abs s ≤ 2_000_000_000_000_000_000 → r ≡ x → s ≡ y → le_z (to_z w64 (of_z w64 r)) (to_z w64 (of_z w64 s)) ≡ false → y ≤ℤ x
 ge_is r s x y h k e f g = omega (arith, ints)
+
+-- what is at most a squared size
+pub least_size : (n : ℕ) (r x : ℤ) → nat_abs r ≤ 2_000_000_000_000_000_000 → r ≡ x → pos n ≤ℤ x → n ≤ 2_000_000_000_000_000_000
+least_size n r x h e l = omega (arith, ints)

@@ -1,7 +1,7 @@
 -- The span of two ways, by what is computed.
 use Rattle.std.proofs.Common.{◌≡◌, ℕ, ◌+◌, ◌*◌, ◌/◌, ◌≤◌, ◌<◌, arith, refl, sym, ap, ◌∙◌, subst, [], ◌∷◌, inl, inr, mul-le-mul_left}
 use Rattle.std.proofs.lemmas.Int.{ints}
-use lib.IntN.{ℤ, pos, ◌+ℤ◌, ◌-ℤ◌, ◌*ℤ◌}
+use lib.IntN.{ℤ, pos, negsuc, ◌+ℤ◌, ◌-ℤ◌, ◌*ℤ◌}
 use lib.Signed.{◌≤ℤ◌, ◌<ℤ◌}
 use Rattle.spot_terms.specs.declared.plain.Pt.{Pt}
 use Rattle.spot_terms.proofs.Mixes.{not_below_times}
@@ -37,9 +37,6 @@ off_swap u v n o a b ha hb =
 
     same : (s t x p y q : ℤ) → norm ((s *ℤ x) +ℤ (t *ℤ p)) ((s *ℤ y) +ℤ (t *ℤ q)) ≡ norm ((t *ℤ p) +ℤ (s *ℤ x)) ((t *ℤ q) +ℤ (s *ℤ y))
     same s t x p y q = ap (λ z. norm z ((s *ℤ y) +ℤ (t *ℤ q))) (plain (s *ℤ x) (t *ℤ p)) ∙ ap (λ z. norm ((t *ℤ p) +ℤ (s *ℤ x)) z) (plain (s *ℤ y) (t *ℤ q))
-
-pub span_swap : (u v : Pt) (n : ℕ) → IsSpan u v n → IsSpan v u n
-span_swap u v n s = record { holds = off_swap u v n s.holds; greatest = λ q o. s.greatest q (off_swap v u q o) }
 
 -- ---- the span where an end is nearest
 
@@ -81,6 +78,14 @@ span_first u v n e h = record {
       where
         plain : (q n : ℕ) → (pos q *ℤ ((pos 1 +ℤ pos 0) *ℤ (pos 1 +ℤ pos 0))) ≤ℤ pos n → q ≤ n
         plain q n h = omega (arith, ints)
+
+-- so it stays off by what is at most u · u
+pub off_first : (u v : Pt) (n : ℕ) → pos n ≤ℤ along u u → along u u ≤ℤ along u v → StaysOff u v n
+off_first u v n low h = let (m, e, l) = natural n (along u u) low in off_down u v m n (span_first u v m e h).holds l
+  where
+    natural : (n : ℕ) (z : ℤ) → pos n ≤ℤ z → (m : ℕ) × (pos m ≡ z) × (n ≤ m)
+    natural n (pos m) k = (m, refl, omega (arith, ints, k))
+    natural n (negsuc m) k = absurd (omega (arith, ints, k))
 
 -- ---- the span where the nearest point is inside
 

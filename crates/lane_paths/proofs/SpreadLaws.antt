@@ -8,8 +8,9 @@ use Rattle.spot_terms.specs.Lists.{Includes}
 use Rattle.spot_terms.specs.declared.plain.Pt.{Pt}
 use Rattle.spot_terms.proofs.Gaps.{gap_one}
 use Rattle.lane_paths.specs.declared.search.Search.{Search}
+use Rattle.lane_paths.specs.declared.search.Waypoint.{Waypoint}
 use Rattle.lane_paths.specs.Reaches.{Edge, HasAtMost, sum_of}
-use Rattle.lane_paths.specs.Searches.{HasPlaces, Spreads, StepsTo, size_of}
+use Rattle.lane_paths.specs.Searches.{HasPlaces, IsDone, IsNotLesser, Spreads, StepsTo, size_of}
 use Rattle.lane_paths.proofs.Items.{get_set_either}
 
 -- ---- the sum of the lengths
@@ -105,23 +106,10 @@ on_ok (Err e) P Q f h = h
 
 -- ---- one step
 
--- edges to number j, by which its length can't become less
-pub done_none : (P : Edge → Type 0) (j m : ℕ) (s : Search) → ((e : Edge) → P e → e.to ≡ j) → (s.limit < m) ⊎ HasAtMost s.lengths.items j m → Spreads P m s s
-done_none P j m s ends done = record {
-  count_same = refl;
-  limit_same = refl;
-  many_same = refl;
-  kept = λ i k h. (k, h, omega arith);
-  made = λ i k h. inl h;
-  settled = λ e h low. elim done [
-    | inl far ↦ absurd (omega (arith, far, low))
-    | inr a ↦ (a.0, subst (λ (z : ℕ). slice_get s.lengths.items z ≡ Some (Some a.0)) (sym (ends e h)) a.1, let least = a.2 in omega (arith, least))
-  ];
-  noted = λ d k h. inl h;
-  waits = λ x h. h;
-  within = λ x h. inl h;
-  smaller = omega arith;
-}
+-- where it is so by way of what is at most the gap, the length by way of x is no less than the one that there is
+pub not_lesser : (s : Search) (x : Waypoint) (to : ℕ) (points : List Pt) (n : ℕ) → ((g : ℕ) → IsGap x.shape points g → n ≤ g) → IsDone s (x.way + n) to → IsNotLesser s x to points
+not_lesser s x to points n least (inl far) g gap low = absurd (let l = least g gap in omega (arith, l, far, low))
+not_lesser s x to points n least (inr has) g gap low = let l = least g gap in most_on s.lengths.items to (x.way + n) (x.way + g) (omega (arith, l)) has
 
 -- the step made no length less
 pub step_none : (i j m : ℕ) (a b : List Pt) (s : Search) → ((g : ℕ) → IsGap a b g → m + g ≤ s.limit → HasAtMost s.lengths.items j (m + g)) → Spreads (StepsTo i j a b) m s s

@@ -19,9 +19,9 @@ pub record IsLesser (s : Search) (x : Waypoint) (to : ℕ) (shape : List Pt) (n 
   pub low : n ≤ s.limit
   pub above : (k : ℕ) → slice_get s.lengths.items to ≡ Some (Some k) → n < k
 
--- the length of x is above the limit, or the waypoint with this number has one that is at most that
-abbrev pub IsDone : Search → Waypoint → ℕ → Type 0
-IsDone s x to = (s.limit < x.way) ⊎ HasAtMost s.lengths.items to x.way
+-- a length of m is above the limit, or the waypoint with this number has one that is at most that
+abbrev pub IsDone : Search → ℕ → ℕ → Type 0
+IsDone s m to = (s.limit < m) ⊎ HasAtMost s.lengths.items to m
 
 -- the length by way of x is above the limit, or no less than the one it has
 abbrev pub IsNotLesser : Search → Waypoint → ℕ → List Pt → Type 0

@@ -4,6 +4,7 @@ use Rattle.spot_terms.specs.Bodies.{IsGreatest}
 use Rattle.spot_terms.specs.Lists.{Includes}
 use Rattle.spot_terms.specs.Whole.{SizeAtMost}
 use Rattle.spot_terms.specs.declared.plain.Pt.{Pt}
+use Rattle.convex_poly.specs.Pivots.{along}
 
 -- the squared distance of (x, y) from 0
 abbrev pub norm : ℤ → ℤ → ℤ
@@ -17,6 +18,15 @@ StaysOff u v n =
 -- the span of u and v: the greatest whole number at most the squared distance of 0 from the segment between them
 abbrev pub IsSpan : Pt → Pt → ℕ → Type 0
 IsSpan u v n = IsGreatest (StaysOff u v) n
+
+-- the squared distance of u from 0 is at least n
+abbrev pub ReachesTo : ℕ → Pt → Type 0
+ReachesTo n u = pos n ≤ℤ along u u
+
+-- n is the least squared distance of one of the ways from 0
+pub record IsLeastSize (ways : List Pt) (n : ℕ) : Type 0 where
+  pub each : (v : Pt) → Includes ways v → ReachesTo n v
+  pub one : (v : Pt) × Includes ways v × (pos n ≡ along v v)
 
 -- n is the least of a number and the spans of u and each of the ways
 pub record IsLesserSpan (least : ℕ) (u : Pt) (ways : List Pt) (n : ℕ) : Type 0 where

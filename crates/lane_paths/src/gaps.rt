@@ -1,19 +1,18 @@
 //! The gap of two convex polygons.
-ghost use Rattle.std.specs.Prelude.{◌≡◌, ◌↔◌, ◌≤◌, ◌+◌, ◌++◌, IsTrue, length};
-ghost use Rattle.spot_terms.specs.Gaps.{AreFar, IsFarFrom, IsGap};
+ghost use Rattle.std.specs.Prelude.{◌≡◌, ◌↔◌, ◌<◌, ◌≤◌, ◌+◌, ◌*◌, ◌++◌, ℕ, IsTrue, length};
+ghost use Rattle.spot_terms.specs.Gaps.{AreFar, IsGap};
 ghost use Rattle.spot_terms.specs.Lists.{Includes};
 ghost use Rattle.spot_terms.specs.declared.plain.Pt.{Pt as Point};
-ghost use Rattle.convex_poly.specs.Pivots.{differences as differences_of, each_minus, minus};
-ghost use Rattle.lane_paths.specs.Spans.{IsSmall};
+ghost use Rattle.convex_poly.specs.Pivots.{AreDisjoint, differences as differences_of, each_minus, minus};
+ghost use Rattle.lane_paths.specs.Boxes.{IsBoxOf, IsGapBound};
+ghost use Rattle.lane_paths.specs.Spans.{IsLeastSpan, IsSmall};
 
+use crate::boxes::BoundingBox;
 use crate::nearest::least_span;
 use arrayvec::ArrayVec;
 use convex_poly::Poly;
 use spot_num::isqrt_floor;
 use spot_terms::Pt;
-
-/// A kilometre in µm.
-const KILOMETRE: u64 = 1_000_000_000;
 
 /// The gap of two polygons: the greatest whole number that is at most the distance of each two of their points, in µm.
 /// It is 0 where they have a common point, and where a corner of the one and a corner of the other differ by more than
@@ -21,60 +20,81 @@ const KILOMETRE: u64 = 1_000_000_000;
 pub fn gap(a: &Poly, b: &Poly) -> u64
     ensures { IsGap a.now b.now result }
 {
-    if are_far(a.corners(), b.corners()) || !a.disjoint(b) {
+    let a_corners = a.corners();
+    let b_corners = b.corners();
+    let a_box = BoundingBox::of(a_corners);
+    let b_box = BoundingBox::of(b_corners);
+    if a_box.is_far_from(&b_box) || !are_apart(a, b, &a_box, &b_box) {
         return 0;
     }
-    isqrt_floor(least_span(differences(a.corners(), b.corners()).as_slice()))
+    isqrt_floor(span_between(a_corners, b_corners))
 }
 
-/// Whether some point of `a` and some point of `b` are far from each other.
-fn are_far(a: &[Pt], b: &[Pt]) -> bool
-    ensures { IsTrue result ↔ AreFar a.now b.now }
+/// Whether two polygons, with their boxes, have no common point. Where the boxes have none, there is no need to look at the
+/// corners.
+fn are_apart(a: &Poly, b: &Poly, a_box: &BoundingBox, b_box: &BoundingBox) -> bool
+    requires a_in { IsBoxOf a.now a_box.now }
+    requires b_in { IsBoxOf b.now b_box.now }
+    ensures { IsTrue result ↔ AreDisjoint a.now b.now }
 {
-    for p in a {
-        if has_far(p, b) {
-            return true;
-        }
+    a_box.beside(b_box) > 0 || a.disjoint(b)
+}
+
+/// At most the gap of the hulls of some points: how far their boxes lie beside each other, in µm, and 0 where points are
+/// far from each other.
+pub(crate) fn gap_at_least(a: &[Pt], b: &[Pt]) -> u64
+    requires a_some { 0 < length a.now }
+    requires b_some { 0 < length b.now }
+    ensures bound { IsGapBound a.now b.now result }
+    ensures least { (g : ℕ) → IsGap a.now b.now g → result ≤ g }
+{
+    let a_box = BoundingBox::of(a);
+    let b_box = BoundingBox::of(b);
+    if a_box.is_far_from(&b_box) {
+        0
+    } else {
+        a_box.beside(&b_box)
     }
-    false
 }
 
-/// Whether some point of `b` is far from `p`.
-fn has_far(p: &Pt, b: &[Pt]) -> bool
-    ensures { IsTrue result ↔ ((q : Point) × Includes b.now q × IsFarFrom p.now q) }
-{
-    for q in b {
-        if is_far(p, q) {
-            return true;
-        }
-    }
-    false
-}
-
-/// Whether the two differ by more than a kilometre in a coordinate.
-fn is_far(p: &Pt, q: &Pt) -> bool
-    ensures { IsTrue result ↔ IsFarFrom p.now q.now }
-{
-    p.x.abs_diff(q.x) > KILOMETRE || p.y.abs_diff(q.y) > KILOMETRE
-}
-
-/// The ways from each point of `b` to each point of `a`, none of which are far from each other.
-fn differences(a: &[Pt], b: &[Pt]) -> ArrayVec<Pt, 400>
+/// The least span of the ways from each point of `b` to each point of `a`, none of which are far from each other. Most
+/// lists have few points, and a long list of ways costs time even where it is hardly filled.
+fn span_between(a: &[Pt], b: &[Pt]) -> u128
+    requires a_some { 0 < length a.now }
+    requires b_some { 0 < length b.now }
     requires a_few { length a.now ≤ 20 }
     requires b_few { length b.now ≤ 20 }
     requires near { AreFar a.now b.now → ⊥ }
-    ensures { result.items ≡ differences_of a.now b.now }
+    ensures is { IsLeastSpan (differences_of a.now b.now) result }
+    ensures within { result ≤ 2_000_000_000_000_000_000 }
 {
-    let mut ways = ArrayVec::new();
+    if a.len() * b.len() <= 16 {
+        span_of_at_most::<16>(a, b)
+    } else {
+        span_of_at_most::<400>(a, b)
+    }
+}
+
+/// The same, of at most `N` ways.
+fn span_of_at_most<const N: usize>(a: &[Pt], b: &[Pt]) -> u128
+    requires a_some { 0 < length a.now }
+    requires b_some { 0 < length b.now }
+    requires room { length a.now * length b.now ≤ N }
+    requires most { N ≤ 400 }
+    requires near { AreFar a.now b.now → ⊥ }
+    ensures is { IsLeastSpan (differences_of a.now b.now) result }
+    ensures within { result ≤ 2_000_000_000_000_000_000 }
+{
+    let mut ways = ArrayVec::<Pt, N>::new();
     for p in a {
         push_ways(&mut ways, p, b);
     }
-    ways
+    least_span(ways.as_slice())
 }
 
 /// Adds the ways from each point of `b` to `p` at the end.
-fn push_ways(ways: &mut ArrayVec<Pt, 400>, p: &Pt, b: &[Pt])
-    requires room { length ways.old.items + length b.now ≤ 400 }
+fn push_ways<const N: usize>(ways: &mut ArrayVec<Pt, N>, p: &Pt, b: &[Pt])
+    requires room { length ways.old.items + length b.now ≤ N }
     requires near { (q : Point) → Includes b.now q → IsSmall (minus p.now q) }
     ensures { ways.new.items ≡ ways.old.items ++ each_minus p.now b.now }
 {

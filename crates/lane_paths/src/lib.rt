@@ -1,6 +1,7 @@
 //! Gaps of convex polygons, and labels: the least lengths of routes through a network. All lengths are whole µm.
 #![tactic(auto)]
 
+mod boxes;
 mod gaps;
 mod label_table;
 mod links;

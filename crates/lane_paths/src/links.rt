@@ -12,7 +12,7 @@ ghost use Rattle.lane_paths.specs.Searches.{AreSettled, HasPlaces, IsUnderWay, S
 ghost use Rattle.lane_paths.specs.Waypoints.{IsWaypoint, LinksFrom, LinksFromStart, LinksBeside, LinksOf, LinksTo, LinksToEntries, entry_at};
 
 use crate::search::{Search, Waypoint};
-use convex_poly::{Poly, hull};
+use convex_poly::{Poly, hull, segment};
 use lanelets::{Cell, Network};
 use spot_terms::Pt;
 use std::alloc::AllocError;
@@ -131,17 +131,18 @@ fn spread_ahead(
     Ok(())
 }
 
-/// Goes on from a waypoint to the entry of a cell. Its hull is made only where it can matter.
+/// Goes on from a waypoint to the entry of a cell. Its hull is made only where the boxes leave open whether it matters.
 fn spread_to(search: &mut Search, net: &Network, from: &Waypoint, d: u32) -> Result<(), AllocError>
     requires places { HasPlaces net.now search.old }
     requires within { d < length (cells net.now) }
     ensures places { OnOk result (HasPlaces net.now search.new) }
     ensures spreads { OnOk result ((p : Point) (i c : ℕ) → IsWaypoint net.now p i c from.now → IsAhead net.now (cells net.now) c d → Spreads (LinksTo net.now p i c (entry_at net.now p d)) from.now.way search.old search.new) }
 {
-    if search.is_entry_done(from, d) {
+    let cell = net.cell(d);
+    if search.is_entry_done(from, d, &[cell.entry.0, cell.entry.1]) {
         return Ok(());
     }
-    search.reach_entry(from, d, &entry_of(net.cell(d)))
+    search.reach_entry(from, d, &entry_of(cell))
 }
 
 /// The hull of a cell's entry.
@@ -150,10 +151,10 @@ fn entry_of(cell: &Cell) -> Poly
     requires right { InHull cell.now.poly cell.now.entry.1 }
     ensures { IsHullOf (cell.now.entry.0 ∷ cell.now.entry.1 ∷ []) result }
 {
-    hull(&[
+    segment(
         inside(&cell.poly, cell.entry.0),
         inside(&cell.poly, cell.entry.1),
-    ])
+    )
 }
 
 /// A point of a polygon as a polygon.

@@ -2,12 +2,14 @@
 //! the entry of cell d, and 2n is the start.
 
 ghost use Rattle.std.specs.Prelude.{◌≡◌, ◌↔◌, ◌+◌, ◌<◌, ℕ, [], length, slice_get, take, Some, IfNone, IfOk, IfSome, IsTrue, OnOk};
+ghost use Rattle.lane_paths.specs.Boxes.{IsGapBound};
 ghost use Rattle.lane_paths.specs.Reaches.{AreFirst, HasAtMost};
 ghost use Rattle.lane_paths.specs.Searches.{IsDone, IsLesser, IsNotLesser, Spreads, StepsTo};
 
-use crate::gaps::gap;
+use crate::gaps::{gap, gap_at_least};
 use crate::pending::Pending;
 use convex_poly::Poly;
+use spot_terms::Pt;
 use std::alloc::{AllocError, Global};
 
 /// A waypoint with a cell in which it can be left, the length of the way to it, and its hull.
@@ -67,23 +69,35 @@ impl Search {
         }
     }
 
-    // Whether the waypoint with this number has no greater length than another, or that is above the limit, so that no way
-    // by that one is to be kept, however near it is.
-    fn is_done(&self, from: &Waypoint, to: usize) -> bool
+    // Whether the waypoint with this number has a length that is at most a sum, or the sum is above the limit.
+    fn is_done(&self, way: u64, further: u64, to: usize) -> bool
         requires { to < length self.now.lengths.items }
-        ensures { IsTrue result ↔ IsDone self.now from.now to }
+        ensures { IsTrue result ↔ IsDone self.now (way + further) to }
     {
-        from.way > self.limit || self.has_at_most(to, from.way)
+        way > self.limit || further > self.limit - way || self.has_at_most(to, way + further)
     }
 
-    /// Whether the entry of a cell has no greater length than a waypoint, or that is above the limit, so that there is no
-    /// need to go from it to the entry, however near it is.
-    pub(crate) fn is_entry_done(&self, from: &Waypoint, d: u32) -> bool
+    // Whether the boxes tell that there is no need to go from a waypoint to one with this number and these points: it has no
+    // greater length, or that is above the limit, even if the gap is only as great as they tell.
+    fn is_done_by_boxes(&self, from: &Waypoint, to: usize, points: &[Pt]) -> bool
+        requires within { to < length self.now.lengths.items }
+        requires some { 0 < length points.now }
+        ensures yes { IsTrue result → IsNotLesser self.now from.now to points.now }
+        ensures no { (n : ℕ) → IsGapBound from.now.shape points.now n → IsDone self.now (from.now.way + n) to → IsTrue result }
+    {
+        self.is_done(from.way, 0, to)
+            || self.is_done(from.way, gap_at_least(from.shape.corners(), points), to)
+    }
+
+    /// Whether the boxes tell that there is no need to go from a waypoint to the entry of a cell, which has these points.
+    pub(crate) fn is_entry_done(&self, from: &Waypoint, d: u32, entry: &[Pt]) -> bool
         requires within { d < self.now.count }
         requires many { length self.now.lengths.items ≡ self.now.count + self.now.count + 1 }
-        ensures { IsTrue result ↔ IsDone self.now from.now (self.now.count + d) }
+        requires some { 0 < length entry.now }
+        ensures yes { IsTrue result → IsNotLesser self.now from.now (self.now.count + d) entry.now }
+        ensures no { (n : ℕ) → IsGapBound from.now.shape entry.now n → IsDone self.now (from.now.way + n) (self.now.count + d) → IsTrue result }
     {
-        self.is_done(from, self.count as usize + d as usize)
+        self.is_done_by_boxes(from, self.count as usize + d as usize, entry)
     }
 
     // The length of a waypoint with this number and hull by way of another, where that is within the limit and less than
@@ -93,11 +107,8 @@ impl Search {
         ensures some { IfSome result (IsLesser self.now from.now to shape.now) }
         ensures none { IfNone result (IsNotLesser self.now from.now to shape.now) }
     {
-        if self.is_done(from, to) {
-            return None;
-        }
         let further = gap(&from.shape, shape);
-        if further > self.limit - from.way || self.has_at_most(to, from.way + further) {
+        if self.is_done(from.way, further, to) {
             return None;
         }
         Some(from.way + further)
@@ -109,6 +120,9 @@ impl Search {
         requires many { length self.old.lengths.items ≡ self.old.count + self.old.count + 1 }
         ensures { (i : ℕ) → Spreads (StepsTo i c from.now.shape shape.now) from.now.way self.old self.new }
     {
+        if self.is_done_by_boxes(from, c as usize, shape.corners()) {
+            return;
+        }
         if let Some(n) = self.lesser(from, c as usize, shape) {
             self.lengths[c as usize] = Some(n);
         }

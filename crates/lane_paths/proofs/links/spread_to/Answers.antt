@@ -1,8 +1,8 @@
-use Rattle.std.proofs.Common.{ℕ, ◌+◌, subst, arith}
-use Rattle.lane_paths.specs.Searches.{IsDone}
-use Rattle.lane_paths.specs.Waypoints.{LinksTo, entry_at}
-use Rattle.lane_paths.proofs.LinkLaws.{stepped_entry}
-use Rattle.lane_paths.proofs.SpreadLaws.{done_none, on_ok, places_on}
+use Rattle.std.proofs.Common.{◌+◌, [], ◌∷◌, arith}
+use Rattle.spot_terms.specs.Cells.{Portal}
+use Rattle.lane_paths.specs.declared.search.Search.{Search}
+use Rattle.lane_paths.proofs.LinkLaws.{stepped_entry, stepped_points}
+use Rattle.lane_paths.proofs.SpreadLaws.{on_ok, places_on, step_none}
 use Rattle.lane_paths.proofs.links.spread_to.Goals as goal
 
 pub is_entry_done-requires-clause-within : goal.is_entry_done-requires-clause-within
@@ -13,9 +13,11 @@ is_entry_done-requires-clause-many c = c.requires.places.many
 
 pub returns-then-is_entry_done-clause-spreads : goal.returns-then-is_entry_done-clause-spreads
 returns-then-is_entry_done-clause-spreads c = λ p i d w ahead.
-    let net = c.args.net.now in
-    let done : IsDone c.args.search.now c.args.from.now (entry_at net p c.args.d) = subst (λ (n : ℕ). IsDone c.args.search.now c.args.from.now (n + c.args.d)) c.requires.places.count_is (c.is_entry_done.ensures.0 c.if-is_entry_done.true) in
-    done_none (LinksTo net p i d (entry_at net p c.args.d)) (entry_at net p c.args.d) c.args.from.now.way c.args.search.now (λ e h. h.0) done
+    let at = c.cell-cell.ensures in
+    let entry : Portal = c.cell-cell.result.now.entry in
+    let search : Search = c.args.search.now in
+    stepped_points c.args.net.now p i d c.args.d search.count c.args.from.now at.net_cell entry search search c.requires.places.count_is w ahead at.cell_is at.cell_of.entry
+    (step_none i (search.count + c.args.d) c.args.from.now.way c.args.from.now.shape (entry.0 ∷ entry.1 ∷ []) search (c.is_entry_done.ensures.yes c.if-is_entry_done.true))
 
 pub reach_entry-requires-clause-within : goal.reach_entry-requires-clause-within
 reach_entry-requires-clause-within c = let low = c.requires.within in let n = c.requires.places.count_is in omega (arith, low, n)
@@ -28,6 +30,6 @@ returns-clause-places c = on_ok c.reach_entry.result _ _ (λ steps. places_on c.
 
 pub returns-clause-spreads : goal.returns-clause-spreads
 returns-clause-spreads c = on_ok c.reach_entry.result _ _ (λ steps p i d w ahead.
-    let at = c.cell.ensures in
-    stepped_entry c.args.net.now p i d c.args.d c.args.search.now.count c.args.from.now at.net_cell c.cell.result.now.entry c.entry_of.result c.args.search.now c.reach_entry.new.self c.requires.places.count_is w
+    let at = c.cell-cell.ensures in
+    stepped_entry c.args.net.now p i d c.args.d c.args.search.now.count c.args.from.now at.net_cell c.cell-cell.result.now.entry c.entry_of.result c.args.search.now c.reach_entry.new.self c.requires.places.count_is w
     ahead at.cell_is at.cell_of.entry c.entry_of.ensures (steps i)) c.reach_entry.ensures

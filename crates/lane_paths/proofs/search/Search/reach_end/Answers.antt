@@ -1,7 +1,13 @@
-use Rattle.std.proofs.Common.{◌<◌, length, refl, arith}
+use Rattle.std.proofs.Common.{◌<◌, List, length, refl, subst, arith}
+use Rattle.spot_terms.specs.declared.plain.Pt.{Pt}
+use Rattle.lane_paths.specs.Searches.{IsNotLesser}
 use Rattle.lane_paths.proofs.PendingLists.{end_step}
 use Rattle.lane_paths.proofs.SpreadLaws.{step_less, step_none}
 use Rattle.lane_paths.proofs.search.Search.reach_end.Goals as goal
+
+pub returns-then-is_done_by_boxes : goal.returns-then-is_done_by_boxes
+returns-then-is_done_by_boxes c = λ i. step_none i c.args.c c.args.from.now.way c.args.from.now.shape c.args.shape.now c.args.self.now
+    (subst (λ (l : List Pt). IsNotLesser c.args.self.now c.args.from.now c.args.c l) c.corners.ensures.items (c.is_done_by_boxes.ensures.yes c.if-is_done_by_boxes.true))
 
 pub returns-in-Some : goal.returns-in-Some
 returns-in-Some c = λ i.
