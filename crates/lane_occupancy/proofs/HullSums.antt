@@ -10,6 +10,7 @@ use Rattle.spot_terms.proofs.ListLemmas.{all_of, includes_flat_map}
 use Rattle.spot_terms.proofs.Members.{all_in_map}
 use Rattle.spot_terms.proofs.Mixes.{total}
 use Rattle.spot_terms.proofs.Ring.{ring, var, ◌⊕◌, ◌⊗◌}
+use Rattle.convex_poly.proofs.Merges.{add_swap}
 
 -- ---- a hull that is moved
 
@@ -41,9 +42,6 @@ hull_moved o vs p h =
 
     both : (c z : ℤ) (n t : ℕ) (X : ℤ) → t ≡ n → X ≡ pos n *ℤ z → (c *ℤ pos t) +ℤ X ≡ pos n *ℤ (c +ℤ z)
     both c z n t X e f = ap (λ (k : ℕ). (c *ℤ pos k) +ℤ X) e ∙ ap (λ x. (c *ℤ pos n) +ℤ x) f ∙ spread c z (pos n)
-
-add_swap : (p q : Pt) → add_pt p q ≡ add_pt q p
-add_swap p q = let x : p.x +ℤ q.x ≡ q.x +ℤ p.x = omega (arith, ints) in let y : p.y +ℤ q.y ≡ q.y +ℤ p.y = omega (arith, ints) in simp (x, y)
 
 -- ---- the hull of all sums
 

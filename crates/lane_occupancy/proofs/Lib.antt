@@ -4,15 +4,11 @@ pub mod HullSums
 pub mod LaneBodies
 pub mod LanePolyLists
 pub mod Lengths
-pub mod Means
 pub mod Paces
 pub mod ReachLengths
 pub mod ReachedCells
 pub mod Shapes
-pub mod SixSums
 pub mod StartLabels
 pub mod Starts
-pub mod SumCounts
-pub mod SumLists
 pub mod Unrefuted
 pub mod Ways

@@ -10,7 +10,7 @@ use Rattle.spot_terms.specs.Lists.{Includes}
 use Rattle.spot_terms.specs.Whole.{root_floor}
 use Rattle.spot_terms.specs.declared.plain.Pt.{Pt}
 use Rattle.spot_terms.proofs.ListLemmas.{all_included, all_of}
-use Rattle.convex_poly.specs.Polygons.{IsPosition}
+use Rattle.convex_poly.specs.Polygons.{IsPosition, IsSummand}
 use Rattle.convex_poly.proofs.CornerCounts.{corners_distinct, distinct_few}
 use Rattle.convex_poly.proofs.Places.{all_map}
 use Rattle.lanelets.specs.Pieces.{IsNear}
@@ -51,3 +51,9 @@ disc_near r h = let w = slant_between r (omega (arith, h)) in let high = w.1 in 
 
 pub near_of_body : (r : ℕ) (corners : List Pt) → r ≤ 400000000 → IsHullOf (disc_corners r) corners → AllByRecursion IsNear corners
 near_of_body r corners h u = all_of IsNear corners (λ c i. all_included IsNear (disc_corners r) c (disc_near r h) (all_included (Includes (disc_corners r)) corners c u.among i))
+
+pub near_summands : (corners : List Pt) → AllByRecursion IsNear corners → AllByRecursion IsSummand corners
+near_summands corners h = all_map IsNear IsSummand (λ p i. record { x = half (nat_abs p.x) i.x; y = half (nat_abs p.y) i.y }) corners h
+  where
+    half : (n : ℕ) → n ≤ 10000000000000 → n ≤ 20000000000000
+    half n h = omega (arith, h)

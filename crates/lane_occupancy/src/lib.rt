@@ -2,7 +2,6 @@
 //! is reached in. All lengths are whole µm.
 #![tactic(auto)]
 
-mod hulls;
 mod intervals;
 mod polygons;
 mod reach;

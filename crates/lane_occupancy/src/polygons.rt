@@ -8,9 +8,8 @@ ghost use Rattle.spot_terms.specs.Ranges.{IsStart};
 ghost use Rattle.lane_occupancy.specs.Polygons.{polygon_of, AreLabelsOf, HasCount};
 ghost use Rattle.lane_occupancy.specs.Laws.{HoldsLaneBodies};
 
-use crate::hulls::hull_of_sums;
 use crate::intervals::{first_interval, interval_ends};
-use convex_poly::Poly;
+use convex_poly::{Poly, sum_hull};
 use heading::start_speed;
 use lane_paths::{LabelTable, Network};
 use round_out::body_poly;
@@ -115,7 +114,7 @@ pub fn lane_polys(
     let mut polys = Vec::new(alloc);
     for c in 0..net.len() {
         if let Some(first) = first_interval(labels, &ends, c) {
-            let poly = hull_of_sums(&net.cell(c).poly, &body);
+            let poly = sum_hull(&net.cell(c).poly, &body);
             polys.push(LanePoly {
                 cell: c,
                 first,
