@@ -103,7 +103,7 @@ carried s t c lines same h = record {
 pub headline : (W : Meaning) (told before after : Option (List ℕ)) (status : Status) (s : Scenario) (c : Command) → IsOne W → W c → Knows told s → IsInRange s → AreBuildable s.lanelets.entries → c.steps ≤ 100
     → WritesPrediction s c.steps before after status → Headline W told before after status
 headline W told before after Open s c one stands known range buildable few (o, predicted, app) = λ bytes old text t d lines other told_is of done before_is after_is fits same task.
-    let lines_are : prediction_lines s.step c.steps s.movers o ≡ lines = texts_tell (prediction_lines s.step c.steps s.movers o) lines (fits_report s c.steps o range buildable few predicted) fits
+    let lines_are : prediction_lines s.step c.steps s.movers o ≡ lines = texts_tell (prediction_lines s.step c.steps s.movers o) lines
     (sym (same_text before after old text (report_of s c.steps o) before_is after_is app) ∙ same) in
     subst (λ x. CoversParticipants t x lines) (one c d stands other)
     (carried s t c lines (alike bytes s t (known bytes told_is) of) (subst (CoversParticipants s c) lines_are (prediction_covers s c o range predicted)))
