@@ -46,7 +46,6 @@ fn reach_at(s: &AccStart, speed: u64, ticks: u32) -> u64
 
 /// The first interval at whose end a cell's label is at most the reach length; `None` where there is none.
 pub(crate) fn first_interval(labels: &LabelTable, ends: &[u64], c: u32) -> Option<u32>
-    requires cell { c < length labels.now }
     requires few { length ends.now ≤ 100 }
     requires ends { IsNonDecreasingBy (λ end. end) ends.now }
     ensures some { IfSome result (λ i. IsLeast (IsWithin labels.now ends.now c) i) }

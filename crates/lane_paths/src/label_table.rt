@@ -1,7 +1,7 @@
 //! Labels: the least lengths of routes.
 
-ghost use Rattle.std.specs.Prelude.{◌≡◌, ◌<◌, ℕ, List, Option, Some, length, slice_get, IfOk};
-ghost use Rattle.lane_paths.specs.Labels.{AreLabels};
+ghost use Rattle.std.specs.Prelude.{◌≡◌, ℕ, List, Option, IfOk};
+ghost use Rattle.lane_paths.specs.Labels.{AreLabels, label_at};
 
 use crate::links::{spread_all, spread_start};
 use crate::search::Search;
@@ -23,12 +23,12 @@ impl Model for LabelTable {
 }
 
 impl LabelTable {
-    /// The label of the cell with this number, in µm. `None` exactly where each route to it is longer than the limit.
+    /// The label of the cell with this number, in µm. `None` exactly where each route to it is longer than the limit, as for
+    /// a number that is no cell.
     pub fn get(&self, c: u32) -> Option<u64>
-        requires { c < length self.now }
-        ensures { slice_get self.now c ≡ Some result }
+        ensures { result ≡ label_at self.now c }
     {
-        self.labels[c as usize]
+        *self.labels.get(c as usize)?
     }
 }
 
