@@ -8,11 +8,11 @@ use Rattle.spot_terms.specs.Lists.{Includes}
 use Rattle.spot_terms.specs.Whole.{IsRootFloor}
 use Rattle.spot_terms.specs.declared.plain.Pt.{Pt}
 use Rattle.spot_terms.proofs.ListLemmas.{all_of}
+use Rattle.spot_terms.proofs.Orders.{below_or_at_least}
 use Rattle.convex_poly.specs.Pivots.{AreDisjoint, minus, differences}
 use Rattle.convex_poly.specs.Polygons.{IsPolygon}
 use Rattle.convex_poly.proofs.Corners.{pt_same}
 use Rattle.convex_poly.proofs.Disjoint.{meets_common, differences_hold, disjoint_or_meets}
-use Rattle.convex_poly.proofs.Places.{order}
 use Rattle.lane_paths.specs.Spans.{IsSmall, IsLeastSpan}
 use Rattle.lane_paths.proofs.GapLaws.{gap_apart, gap_meets}
 
@@ -32,7 +32,7 @@ near_small : (p q : Pt) → (IsFarFrom p q → ⊥) → IsSmall (minus p q)
 near_small p q h = record { x = near (nat_abs (p.x -ℤ q.x)) (λ l. h (inl l)); y = near (nat_abs (p.y -ℤ q.y)) (λ l. h (inr l)) }
   where
     near : (n : ℕ) → (1_000_000_000 < n → ⊥) → n ≤ 1_000_000_000
-    near n g = elim (order 1_000_000_000 n) [ inl l ↦ absurd (g l) | inr k ↦ k ]
+    near n g = elim (below_or_at_least 1_000_000_000 n) [ inl l ↦ absurd (g l) | inr k ↦ k ]
 
 -- so are the ways from all of b to one of a, and all differences
 pub near_ways : (a b : List Pt) (p : Pt) → (AreFar a b → ⊥) → Includes a p → (q : Pt) → Includes b q → IsSmall (minus p q)

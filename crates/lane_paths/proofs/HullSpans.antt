@@ -6,13 +6,13 @@ use lib.Signed.{◌≤ℤ◌, ◌<ℤ◌}
 use Rattle.spot_terms.specs.declared.plain.Pt.{Pt}
 use Rattle.spot_terms.specs.Hull.{weighted}
 use Rattle.spot_terms.specs.Lists.{Includes}
-use Rattle.spot_terms.proofs.Mixes.{total, Mix, not_below_times}
+use Rattle.spot_terms.proofs.Mixes.{total, Mix}
 use Rattle.spot_terms.proofs.Ring.{ring, var, ◌⊕◌, ◌⊖◌, ◌⊗◌}
-use Rattle.convex_poly.proofs.Disjoint.{part_ok}
+use Rattle.spot_terms.proofs.Orders.{product_not_negative, factor_not_negative, square_positive, at_most_of_difference, difference_not_negative}
 use Rattle.convex_poly.proofs.Rays.{Short, ray}
 use Rattle.convex_poly.proofs.Ways.{Meets0}
 use Rattle.lane_paths.specs.Spans.{norm, StaysOff}
-use Rattle.lane_paths.proofs.Signs.{above_square, le_of, room, add_ok, square_order}
+use Rattle.lane_paths.proofs.Signs.{add_ok, square_order}
 
 -- a point that comes to such a segment stays off 0 as far
 short_off : (vs : List Pt) (W X Y : ℤ) (n : ℕ) → pos 0 ≤ℤ W → ((u v : Pt) → Includes vs u → Includes vs v → StaysOff u v n) → Short vs W X Y → (pos n *ℤ (W *ℤ W)) ≤ℤ norm X Y
@@ -25,18 +25,18 @@ short_off vs W X Y n hW off s =
   where
     finish : (W X Y N k t : ℤ) → pos 0 ≤ℤ N → pos 0 <ℤ k → pos 0 ≤ℤ W → (k *ℤ W) ≤ℤ t → (N *ℤ (t *ℤ t)) ≤ℤ norm (k *ℤ X) (k *ℤ Y) → (N *ℤ (W *ℤ W)) ≤ℤ norm X Y
     finish W X Y N k t hN hk hW f o =
-        let wider : pos 0 ≤ℤ (N *ℤ ((t *ℤ t) -ℤ ((k *ℤ W) *ℤ (k *ℤ W)))) = not_below_times N ((t *ℤ t) -ℤ ((k *ℤ W) *ℤ (k *ℤ W))) hN
-        (square_order (k *ℤ W) t (not_below_times k W (omega (arith, ints)) hW) f) in
+        let wider : pos 0 ≤ℤ (N *ℤ ((t *ℤ t) -ℤ ((k *ℤ W) *ℤ (k *ℤ W)))) = product_not_negative N ((t *ℤ t) -ℤ ((k *ℤ W) *ℤ (k *ℤ W))) hN
+        (square_order (k *ℤ W) t (product_not_negative k W (omega (arith, ints)) hW) f) in
         let spread : N *ℤ ((t *ℤ t) -ℤ ((k *ℤ W) *ℤ (k *ℤ W))) ≡ (N *ℤ (t *ℤ t)) -ℤ ((k *ℤ k) *ℤ (N *ℤ (W *ℤ W)))
         = ring (N ∷ t ∷ k ∷ W ∷ []) (var 0 ⊗ ((var 1 ⊗ var 1) ⊖ ((var 2 ⊗ var 3) ⊗ (var 2 ⊗ var 3)))) ((var 0 ⊗ (var 1 ⊗ var 1)) ⊖ ((var 2 ⊗ var 2) ⊗ (var 0 ⊗ (var 3 ⊗ var 3)))) refl in
         let out : norm (k *ℤ X) (k *ℤ Y) ≡ (k *ℤ k) *ℤ norm X Y
         = ring (k ∷ X ∷ Y ∷ []) (((var 0 ⊗ var 1) ⊗ (var 0 ⊗ var 1)) ⊕ ((var 0 ⊗ var 2) ⊗ (var 0 ⊗ var 2))) ((var 0 ⊗ var 0) ⊗ ((var 1 ⊗ var 1) ⊕ (var 2 ⊗ var 2))) refl in
         let both : pos 0 ≤ℤ (((k *ℤ k) *ℤ norm X Y) -ℤ ((k *ℤ k) *ℤ (N *ℤ (W *ℤ W))))
-        = add_ok ((k *ℤ k) *ℤ (N *ℤ (W *ℤ W))) (N *ℤ (t *ℤ t)) ((k *ℤ k) *ℤ norm X Y) (subst (λ z. pos 0 ≤ℤ z) spread wider) (subst (λ z. pos 0 ≤ℤ (z -ℤ (N *ℤ (t *ℤ t)))) out (room _ _ o)) in
+        = add_ok ((k *ℤ k) *ℤ (N *ℤ (W *ℤ W))) (N *ℤ (t *ℤ t)) ((k *ℤ k) *ℤ norm X Y) (subst (λ z. pos 0 ≤ℤ z) spread wider) (subst (λ z. pos 0 ≤ℤ (z -ℤ (N *ℤ (t *ℤ t)))) out (difference_not_negative _ _ o)) in
         let common : ((k *ℤ k) *ℤ norm X Y) -ℤ ((k *ℤ k) *ℤ (N *ℤ (W *ℤ W))) ≡ (k *ℤ k) *ℤ (norm X Y -ℤ (N *ℤ (W *ℤ W)))
         = ring (k ∷ X ∷ Y ∷ N ∷ W ∷ []) (((var 0 ⊗ var 0) ⊗ ((var 1 ⊗ var 1) ⊕ (var 2 ⊗ var 2))) ⊖ ((var 0 ⊗ var 0) ⊗ (var 3 ⊗ (var 4 ⊗ var 4))))
         ((var 0 ⊗ var 0) ⊗ (((var 1 ⊗ var 1) ⊕ (var 2 ⊗ var 2)) ⊖ (var 3 ⊗ (var 4 ⊗ var 4)))) refl in
-        le_of _ _ (part_ok (k *ℤ k) (norm X Y -ℤ (N *ℤ (W *ℤ W))) (above_square k hk) (subst (λ z. pos 0 ≤ℤ z) common both))
+        at_most_of_difference _ _ (factor_not_negative (k *ℤ k) (norm X Y -ℤ (N *ℤ (W *ℤ W))) (square_positive k hk) (subst (λ z. pos 0 ≤ℤ z) common both))
 
 -- the same for equal weights and sums
 moved : (n V W : ℕ) (P X Q Y : ℤ) → V ≡ W → P ≡ X → Q ≡ Y → (pos n *ℤ (pos V *ℤ pos V)) ≤ℤ norm P Q → (pos n *ℤ (pos W *ℤ pos W)) ≤ℤ norm X Y

@@ -7,11 +7,11 @@ use Rattle.std.specs.Prelude.{nat_abs}
 use lib.IntN.{ℤ, pos, ◌+ℤ◌, ◌*ℤ◌}
 use lib.Signed.{◌≤ℤ◌}
 use Rattle.convex_poly.specs.Pivots.{along}
-use Rattle.convex_poly.proofs.Places.{order}
 use Rattle.convex_poly.proofs.Wide.{product_within}
 use Rattle.spot_terms.specs.declared.plain.Pt.{Pt}
 use Rattle.spot_terms.specs.Lists.{Includes}
 use Rattle.spot_terms.proofs.ListLemmas.{all_of, includes_at, includes_front, includes_back, includes_either, includes_taken}
+use Rattle.spot_terms.proofs.Orders.{natural_weaken, reflexive, below_or_at_least}
 use Rattle.lane_paths.specs.Spans.{IsSmall, StaysOff, IsSpan, IsLeastSize, IsLesserSpan, IsLeastSpan, ReachesTo}
 use Rattle.lane_paths.proofs.Spans.{off_down, off_first, off_swap, span_first}
 
@@ -38,14 +38,11 @@ lesser_same least u v o = record { at_most = omega arith; all = λ z i. only z i
 
 -- the lesser of the number and the span
 pub lesser_span_is : (least : ℕ) (u v : Pt) (w now : ℕ) → IsSpan u v w → now ≡ min least w → IsLesserSpan least u (v ∷ []) now
-lesser_span_is least u v w now s is = elim (order least w) [
-  | inl l ↦ subst (λ (n : ℕ). IsLesserSpan least u (v ∷ []) n) (first least w now l is) (lesser_same least u v (off_down u v w least s.holds (below least w l)))
+lesser_span_is least u v w now s is = elim (below_or_at_least least w) [
+  | inl l ↦ subst (λ (n : ℕ). IsLesserSpan least u (v ∷ []) n) (first least w now l is) (lesser_same least u v (off_down u v w least s.holds (natural_weaken least w l)))
   | inr g ↦ subst (λ (n : ℕ). IsLesserSpan least u (v ∷ []) n) (second least w now g is) (record { at_most = g; all = λ z i. only z i; one = inr (v, inl refl, s) })
 ]
   where
-    below : (a b : ℕ) → a < b → a ≤ b
-    below a b h = omega arith
-
     first : (a b m : ℕ) → a < b → m ≡ min a b → a ≡ m
     first a b m l e = grind arith
 
@@ -135,11 +132,8 @@ pub least_none : (ways : List Pt) (w : ℕ) → IsLeastSize ways w → IsLeastSo
 least_none ways w s = record {
   reached = s.each;
   all = λ u v i j. absurd i;
-  one = let (v, i, e) = s.one in (v, v, i, i, span_first v v w e (itself (along v v)));
+  one = let (v, i, e) = s.one in (v, v, i, i, span_first v v w e (reflexive (along v v)));
 }
-  where
-    itself : (z : ℤ) → z ≤ℤ z
-    itself z = omega (arith, ints)
 
 -- a way is among the first i, or among the others
 front_or_rest : (ways : List Pt) (i : ℕ) (v : Pt) → Includes ways v → Includes (take i ways) v ⊎ Includes (drop i ways) v
@@ -167,11 +161,8 @@ least_more ways i d before now h k s = record {
   ];
 }
   where
-    itself : (z : ℤ) → z ≤ℤ z
-    itself z = omega (arith, ints)
-
     at_itself : StaysOff (slice_index_or ways i d) (slice_index_or ways i d) before
-    at_itself = off_first (slice_index_or ways i d) (slice_index_or ways i d) before (k.reached (slice_index_or ways i d) (includes_at ways i d h)) (itself (along (slice_index_or ways i d) (slice_index_or ways i d)))
+    at_itself = off_first (slice_index_or ways i d) (slice_index_or ways i d) before (k.reached (slice_index_or ways i d) (includes_at ways i d h)) (reflexive (along (slice_index_or ways i d) (slice_index_or ways i d)))
 
     here : (v : Pt) → Includes (take (i + 1) ways) v ⊎ Includes (drop (i + 1) ways) v → StaysOff (slice_index_or ways i d) v now
     here v (inl front) = elim (includes_taken ways i d v h front) [

@@ -4,14 +4,12 @@ use Rattle.std.proofs.lemmas.Int.{ints}
 use lib.IntN.{ℤ, pos, negsuc, ◌+ℤ◌, ◌-ℤ◌, ◌*ℤ◌}
 use lib.Signed.{◌≤ℤ◌, ◌<ℤ◌}
 use Rattle.spot_terms.specs.declared.plain.Pt.{Pt}
-use Rattle.spot_terms.proofs.Mixes.{not_below_times}
 use Rattle.spot_terms.proofs.Products.{square_not_negative}
 use Rattle.spot_terms.proofs.Ring.{ring, Exp, var, num, ◌⊕◌, ◌⊖◌, ◌⊗◌}
+use Rattle.spot_terms.proofs.Orders.{sum_not_negative, sum_swap, product_not_negative, factor_not_negative, below_or_at_least, at_most_of_difference, difference_not_negative}
 use Rattle.convex_poly.specs.Pivots.{turn_of, along}
-use Rattle.convex_poly.proofs.Disjoint.{part_ok}
-use Rattle.convex_poly.proofs.Places.{order}
 use Rattle.lane_paths.specs.Spans.{norm, StaysOff, IsSpan}
-use Rattle.lane_paths.proofs.Signs.{le_of, room, add_ok}
+use Rattle.lane_paths.proofs.Signs.{add_ok}
 
 -- ---- fewer, and in the other order
 
@@ -21,22 +19,19 @@ off_down u v n q o h a b ha hb = less (pos q) (pos n) (a +ℤ b) _ (omega (arith
   where
     less : (q n t M : ℤ) → q ≤ℤ n → (n *ℤ (t *ℤ t)) ≤ℤ M → (q *ℤ (t *ℤ t)) ≤ℤ M
     less q n t M h o =
-        le_of _ _ (add_ok (q *ℤ (t *ℤ t)) (n *ℤ (t *ℤ t)) M
+        at_most_of_difference _ _ (add_ok (q *ℤ (t *ℤ t)) (n *ℤ (t *ℤ t)) M
         (subst (λ z. pos 0 ≤ℤ z) (ring (q ∷ n ∷ t ∷ []) ((var 1 ⊖ var 0) ⊗ (var 2 ⊗ var 2)) ((var 1 ⊗ (var 2 ⊗ var 2)) ⊖ (var 0 ⊗ (var 2 ⊗ var 2))) refl)
-        (not_below_times (n -ℤ q) (t *ℤ t) (room _ _ h) (square_not_negative t)))
-        (room _ _ o))
+        (product_not_negative (n -ℤ q) (t *ℤ t) (difference_not_negative _ _ h) (square_not_negative t)))
+        (difference_not_negative _ _ o))
 
 -- a segment has no direction
 pub off_swap : (u v : Pt) (n : ℕ) → StaysOff u v n → StaysOff v u n
 off_swap u v n o a b ha hb =
     subst (λ z. (pos n *ℤ ((a +ℤ b) *ℤ (a +ℤ b))) ≤ℤ z) (same b a u.x v.x u.y v.y)
-    (subst (λ z. (pos n *ℤ (z *ℤ z)) ≤ℤ norm ((b *ℤ u.x) +ℤ (a *ℤ v.x)) ((b *ℤ u.y) +ℤ (a *ℤ v.y))) (plain b a) (o b a hb ha))
+    (subst (λ z. (pos n *ℤ (z *ℤ z)) ≤ℤ norm ((b *ℤ u.x) +ℤ (a *ℤ v.x)) ((b *ℤ u.y) +ℤ (a *ℤ v.y))) (sum_swap b a) (o b a hb ha))
   where
-    plain : (s t : ℤ) → s +ℤ t ≡ t +ℤ s
-    plain s t = omega (arith, ints)
-
     same : (s t x p y q : ℤ) → norm ((s *ℤ x) +ℤ (t *ℤ p)) ((s *ℤ y) +ℤ (t *ℤ q)) ≡ norm ((t *ℤ p) +ℤ (s *ℤ x)) ((t *ℤ q) +ℤ (s *ℤ y))
-    same s t x p y q = ap (λ z. norm z ((s *ℤ y) +ℤ (t *ℤ q))) (plain (s *ℤ x) (t *ℤ p)) ∙ ap (λ z. norm ((t *ℤ p) +ℤ (s *ℤ x)) z) (plain (s *ℤ y) (t *ℤ q))
+    same s t x p y q = ap (λ z. norm z ((s *ℤ y) +ℤ (t *ℤ q))) (sum_swap (s *ℤ x) (t *ℤ p)) ∙ ap (λ z. norm ((t *ℤ p) +ℤ (s *ℤ x)) z) (sum_swap (s *ℤ y) (t *ℤ q))
 
 -- ---- the span where an end is nearest
 
@@ -51,12 +46,9 @@ near_first u v a b ha hb h =
     ⊖ (((var 0 ⊕ var 1) ⊗ (var 0 ⊕ var 1)) ⊗ ((var 2 ⊗ var 2) ⊕ (var 3 ⊗ var 3))))
     (((((var 0 ⊕ var 0) ⊗ var 1) ⊕ ((var 1 ⊕ var 1) ⊗ var 1)) ⊗ (((var 2 ⊗ var 4) ⊕ (var 3 ⊗ var 5)) ⊖ ((var 2 ⊗ var 2) ⊕ (var 3 ⊗ var 3))))
     ⊕ ((var 1 ⊗ var 1) ⊗ (((var 2 ⊖ var 4) ⊗ (var 2 ⊖ var 4)) ⊕ ((var 3 ⊖ var 5) ⊗ (var 3 ⊖ var 5))))) refl in
-    subst (λ z. pos 0 ≤ℤ z) (sym e) (both _ _
-    (not_below_times _ (along u v -ℤ along u u) (both _ _ (not_below_times (a +ℤ a) b (both a a ha ha) hb) (not_below_times (b +ℤ b) b (both b b hb hb) hb)) (room _ _ h))
-    (not_below_times (b *ℤ b) _ (square_not_negative b) (both _ _ (square_not_negative (u.x -ℤ v.x)) (square_not_negative (u.y -ℤ v.y)))))
-  where
-    both : (s t : ℤ) → pos 0 ≤ℤ s → pos 0 ≤ℤ t → pos 0 ≤ℤ (s +ℤ t)
-    both s t h k = omega (arith, ints)
+    subst (λ z. pos 0 ≤ℤ z) (sym e) (sum_not_negative _ _
+    (product_not_negative _ (along u v -ℤ along u u) (sum_not_negative _ _ (product_not_negative (a +ℤ a) b (sum_not_negative a a ha ha) hb) (product_not_negative (b +ℤ b) b (sum_not_negative b b hb hb) hb)) (difference_not_negative _ _ h))
+    (product_not_negative (b *ℤ b) _ (square_not_negative b) (sum_not_negative _ _ (square_not_negative (u.x -ℤ v.x)) (square_not_negative (u.y -ℤ v.y)))))
 
 -- where u is nearest, the span is u · u
 pub span_first : (u v : Pt) (n : ℕ) → pos n ≡ along u u → along u u ≤ℤ along u v → IsSpan u v n
@@ -66,7 +58,7 @@ span_first u v n e h = record {
 }
   where
     turned : (t N M : ℤ) → pos 0 ≤ℤ (M -ℤ (t *ℤ N)) → (N *ℤ t) ≤ℤ M
-    turned t N M k = le_of _ _ (subst (λ z. pos 0 ≤ℤ (M -ℤ z)) (ring (t ∷ N ∷ []) (var 0 ⊗ var 1) (var 1 ⊗ var 0) refl) k)
+    turned t N M k = at_most_of_difference _ _ (subst (λ z. pos 0 ≤ℤ (M -ℤ z)) (ring (t ∷ N ∷ []) (var 0 ⊗ var 1) (var 1 ⊗ var 0) refl) k)
 
     unfold_end : (x y p q : ℤ) → norm ((pos 1 *ℤ x) +ℤ (pos 0 *ℤ p)) ((pos 1 *ℤ y) +ℤ (pos 0 *ℤ q)) ≡ (x *ℤ x) +ℤ (y *ℤ y)
     unfold_end x y p q = ring (x ∷ y ∷ p ∷ q ∷ [])
@@ -126,7 +118,7 @@ quotient_low : (m e n : ℕ) → 0 < e → n ≤ m / e → e * n ≤ m
 quotient_low m e n h k = let g : e * n ≤ e * (m / e) = mul-le-mul_left e k in omega arith
 
 quotient_high : (m e n : ℕ) → 0 < e → e * n ≤ m → n ≤ m / e
-quotient_high m e n h k = elim (order (m / e) n) [ inl g ↦ absurd (let f : e * (m / e + 1) ≤ e * n = mul-le-mul_left e (next (m / e) n g) in omega arith) | inr g ↦ g ]
+quotient_high m e n h k = elim (below_or_at_least (m / e) n) [ inl g ↦ absurd (let f : e * (m / e + 1) ≤ e * n = mul-le-mul_left e (next (m / e) n g) in omega arith) | inr g ↦ g ]
   where
     next : (a b : ℕ) → a < b → a + 1 ≤ b
     next a b h = omega arith
@@ -135,7 +127,7 @@ quotient_high m e n h k = elim (order (m / e) n) [ inl g ↦ absurd (let f : e *
 pub span_inside : (u v : Pt) (m e : ℕ) → 0 < e → pos m ≡ turn_of u v *ℤ turn_of u v → pos e ≡ gauge u v → along u v ≤ℤ along u u → along u v ≤ℤ along v v → IsSpan u v (m / e)
 span_inside u v m e he hm hg hu hv = record {
   holds = λ a b ha hb. stays a b;
-  greatest = λ q o. quotient_high m e q he (most q (o (along v v -ℤ along u v) (along u u -ℤ along u v) (room _ _ hv) (room _ _ hu)));
+  greatest = λ q o. quotient_high m e q he (most q (o (along v v -ℤ along u v) (along u u -ℤ along u v) (difference_not_negative _ _ hv) (difference_not_negative _ _ hu)));
 }
   where
     low : e * (m / e) ≤ m
@@ -154,31 +146,28 @@ span_inside u v m e he hm hg hu hv = record {
       where
         finish : (N t M E C D : ℤ) → pos 0 <ℤ E → pos 0 ≤ℤ (C -ℤ (E *ℤ N)) → E *ℤ M ≡ ((t *ℤ t) *ℤ C) +ℤ (D *ℤ D) → (N *ℤ (t *ℤ t)) ≤ℤ M
         finish N t M E C D hE h k =
-            le_of _ _ (part_ok E (M -ℤ (N *ℤ (t *ℤ t))) hE
+            at_most_of_difference _ _ (factor_not_negative E (M -ℤ (N *ℤ (t *ℤ t))) hE
             (subst (λ z. pos 0 ≤ℤ z) (sym (ring (E ∷ M ∷ N ∷ t ∷ []) (var 0 ⊗ (var 1 ⊖ (var 2 ⊗ (var 3 ⊗ var 3)))) ((var 0 ⊗ var 1) ⊖ ((var 0 ⊗ var 2) ⊗ (var 3 ⊗ var 3))) refl))
             (join (E *ℤ M) ((t *ℤ t) *ℤ C) (D *ℤ D) ((E *ℤ N) *ℤ (t *ℤ t)) k (square_not_negative D)
             (subst (λ z. pos 0 ≤ℤ z) (ring (t ∷ C ∷ E ∷ N ∷ []) ((var 0 ⊗ var 0) ⊗ (var 1 ⊖ (var 2 ⊗ var 3))) (((var 0 ⊗ var 0) ⊗ var 1) ⊖ ((var 2 ⊗ var 3) ⊗ (var 0 ⊗ var 0))) refl)
-            (not_below_times (t *ℤ t) (C -ℤ (E *ℤ N)) (square_not_negative t) h)))))
+            (product_not_negative (t *ℤ t) (C -ℤ (E *ℤ N)) (square_not_negative t) h)))))
           where
             join : (s p d q : ℤ) → s ≡ p +ℤ d → pos 0 ≤ℤ d → pos 0 ≤ℤ (p -ℤ q) → pos 0 ≤ℤ (s -ℤ q)
             join s p d q e h k = omega (arith, ints)
 
     most : (q : ℕ) → (pos q *ℤ (((along v v -ℤ along u v) +ℤ (along u u -ℤ along u v)) *ℤ ((along v v -ℤ along u v) +ℤ (along u u -ℤ along u v)))) ≤ℤ norm (((along v v -ℤ along u v) *ℤ u.x) +ℤ ((along u u -ℤ along u v) *ℤ v.x)) (((along v v -ℤ along u v) *ℤ u.y) +ℤ ((along u u -ℤ along u v) *ℤ v.y)) → e * q ≤ m
     most q o =
-        plain e m q (le_of _ _ (subst (λ z. pos 0 ≤ℤ (z -ℤ (pos e *ℤ pos q))) (sym hm) (subst (λ z. pos 0 ≤ℤ ((turn_of u v *ℤ turn_of u v) -ℤ (z *ℤ pos q))) (sym hg)
-        (cut (pos q) (gauge u v) (turn_of u v *ℤ turn_of u v) ((along v v -ℤ along u v) +ℤ (along u u -ℤ along u v)) _ (turned (along v v -ℤ along u v) (along u u -ℤ along u v)) (inside_norm u v) (subst (λ z. pos 0 <ℤ z) hg (omega (arith, ints))) o))))
+        plain e m q (at_most_of_difference _ _ (subst (λ z. pos 0 ≤ℤ (z -ℤ (pos e *ℤ pos q))) (sym hm) (subst (λ z. pos 0 ≤ℤ ((turn_of u v *ℤ turn_of u v) -ℤ (z *ℤ pos q))) (sym hg)
+        (cut (pos q) (gauge u v) (turn_of u v *ℤ turn_of u v) ((along v v -ℤ along u v) +ℤ (along u u -ℤ along u v)) _ (sum_swap (along v v -ℤ along u v) (along u u -ℤ along u v)) (inside_norm u v) (subst (λ z. pos 0 <ℤ z) hg (omega (arith, ints))) o))))
       where
         plain : (e m q : ℕ) → (pos e *ℤ pos q) ≤ℤ pos m → e * q ≤ m
         plain e m q h = omega (arith, ints)
 
-        turned : (s t : ℤ) → s +ℤ t ≡ t +ℤ s
-        turned s t = omega (arith, ints)
-
         cut : (q E C t M : ℤ) → t ≡ E → M ≡ E *ℤ C → pos 0 <ℤ E → (q *ℤ (t *ℤ t)) ≤ℤ M → pos 0 ≤ℤ (C -ℤ (E *ℤ q))
         cut q E C t M e f hE o =
-            part_ok E (C -ℤ (E *ℤ q)) hE
+            factor_not_negative E (C -ℤ (E *ℤ q)) hE
             (subst (λ z. pos 0 ≤ℤ z) (ring (E ∷ C ∷ q ∷ []) ((var 0 ⊗ var 1) ⊖ (var 2 ⊗ (var 0 ⊗ var 0))) (var 0 ⊗ (var 1 ⊖ (var 0 ⊗ var 2))) refl)
-            (room _ _ (subst (λ z. (q *ℤ (E *ℤ E)) ≤ℤ z) f (subst (λ z. (q *ℤ (z *ℤ z)) ≤ℤ M) e o))))
+            (difference_not_negative _ _ (subst (λ z. (q *ℤ (E *ℤ E)) ≤ℤ z) f (subst (λ z. (q *ℤ (z *ℤ z)) ≤ℤ M) e o))))
 
 -- an inner product has no order
 pub along_swap : (u v : Pt) → along u v ≡ along v u

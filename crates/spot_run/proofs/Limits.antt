@@ -11,9 +11,9 @@ use Rattle.spot_terms.specs.declared.status.Which.{Which}
 use Rattle.spot_terms.specs.declared.status.Which.TheVariants.{TooManyCells, LaneTooWide, TooManyLanePolygons}
 use Rattle.spot_terms.specs.declared.status.Status.{Status}
 use Rattle.spot_terms.specs.declared.status.Status.TheVariants.{Open, BadWords, Limit, WriteFault, Memory}
+use Rattle.spot_terms.proofs.Orders.{below_or_at_least}
 use Rattle.spot_tree.proofs.Readings.{one_tree}
 use Rattle.scenario.proofs.Unique.{both_some}
-use Rattle.convex_poly.proofs.Places.{order}
 use Rattle.spot_claims.specs.Scenario.{IsScenario}
 use Rattle.spot_claims.specs.Answers.{Meaning, AreNoCommand, IsAccepting, IsWithinLimits, IsOutside, TooManyCellsExactly, LaneTooWideExactly, TooManyLanePolygonsExactly, Completes, most_bytes, most_pairs}
 use Rattle.participants.proofs.OneNumber.{pairs_are_one}
@@ -25,7 +25,7 @@ use Rattle.spot_run.proofs.Runs.{IsOne, Knows, AreAlike, alike, outside_at}
 -- ---- one lanelet is the first that is too wide
 
 before_first : (lanes : List Lane) (e f : ℕ) (l : Lane) → AreNarrowBelow lanes f → slice_get lanes e ≡ Some l → IsTooWide l.1 → f ≤ e
-before_first lanes e f l narrow at wide = elim (order e f) [
+before_first lanes e f l narrow at wide = elim (below_or_at_least e f) [
   | inl below ↦ absurd (narrow e l below at wide)
   | inr not ↦ not
 ]
