@@ -40,7 +40,7 @@ length-differences : (a b : List Pt) → length (differences a b) ≡ length a *
 length-differences [] b = omega arith
 length-differences (p ∷ a) b = length-append (each_minus p b) (differences a b) ∙ omega (arith, length-each p b, length-differences a b)
 
--- the ways of one more point
+-- the vectors of one more point
 pub differences_more : (before now : List Pt) (a b : List Pt) (i : ℕ) (d : Pt) → i < length a → before ≡ differences (take i a) b → now ≡ before ++ each_minus (slice_index_or a i d) b → now ≡ differences (take (i + 1) a) b
 differences_more before now a b i d h e f =
     f ∙ ap (λ (z : List Pt). z ++ each_minus (slice_index_or a i d) b) e
@@ -57,7 +57,7 @@ differences_room now a b i room h few e =
     grow : (x y u : ℕ) → x ≤ y → x * u ≤ y * u
     grow x y u k = grind (arith, mul-le-mul)
 
--- some ways from some points to some points
+-- some vectors from some points to some points
 pub differences_some : (a b : List Pt) → 0 < length a → 0 < length b → 0 < length (differences a b)
 differences_some a b h k =
     let all : 1 * 1 ≤ length a * length b = mul-le-mul h k in

@@ -1,4 +1,4 @@
--- The root of the least span of two differences is the gap of the two lists, where they have no common point.
+-- The root of the least clearance of two differences is the gap of the two lists, where they have no common point.
 use Rattle.std.proofs.Common.{◌≡◌, ℕ, zero, suc, ◌+◌, ◌*◌, ◌≤◌, ◌<◌, arith, refl, sym, ap, ◌∙◌, subst, List, [], ◌∷◌, inl, inr}
 use Rattle.std.proofs.lemmas.Int.{ints}
 use lib.IntN.{ℤ, pos, negsuc, ◌+ℤ◌, ◌-ℤ◌, ◌*ℤ◌}
@@ -18,9 +18,9 @@ use Rattle.spot_terms.proofs.Orders.{positive_natural, product_not_negative, fac
 use Rattle.convex_poly.specs.Pivots.{differences}
 use Rattle.convex_poly.proofs.Differences.{to_differences, from_differences}
 use Rattle.convex_poly.proofs.Ways.{Meets0}
-use Rattle.lane_paths.specs.Spans.{norm, StaysOff, IsLeastSpan}
-use Rattle.lane_paths.proofs.HullSpans.{hull_off}
-use Rattle.lane_paths.proofs.Spans.{off_down}
+use Rattle.lane_paths.specs.Clearances.{norm, StaysOff, IsLeastClearance}
+use Rattle.lane_paths.proofs.HullClearances.{hull_off}
+use Rattle.lane_paths.proofs.ClearanceLaws.{off_down}
 
 -- ---- no two points are nearer
 
@@ -120,11 +120,11 @@ stays_off a b w u v k iu iv (negsuc m) c ha hb = absurd (omega (arith, ints))
 stays_off a b w u v k iu iv (pos zero) (negsuc n) ha hb = absurd (omega (arith, ints))
 stays_off a b w u v k iu iv (pos (suc m)) (negsuc n) ha hb = absurd (omega (arith, ints))
 
--- where the lists are apart, the root of the least span of two differences is the gap
-pub gap_apart : (a b : List Pt) (n w : ℕ) → (Meets0 (differences a b) → ⊥) → IsLeastSpan (differences a b) n → IsRootFloor n w → IsGreatest (KeepsApart a b) w
+-- where the lists are apart, the root of the least clearance of two differences is the gap
+pub gap_apart : (a b : List Pt) (n w : ℕ) → (Meets0 (differences a b) → ⊥) → IsLeastClearance (differences a b) n → IsRootFloor n w → IsGreatest (KeepsApart a b) w
 gap_apart a b n w never s r = record {
   holds = keeps_apart a b w never (λ u v i j. off_down u v n (w * w) (s.all u v i j) r.low);
-  greatest = λ q k. let (u, v, i, j, span) = s.one in root_order n w q (span.greatest (q * q) (stays_off a b q u v k i j)) r.high;
+  greatest = λ q k. let (u, v, i, j, clearance) = s.one in root_order n w q (clearance.greatest (q * q) (stays_off a b q u v k i j)) r.high;
 }
 
 -- where they meet, it is 0
