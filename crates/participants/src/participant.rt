@@ -10,40 +10,11 @@ use acc_occupancy::AccRun;
 use convex_poly::OctNumbers;
 use lane_occupancy::{LanePolys, lane_polys};
 use lanelets::Network;
-use spot_terms::{AccStart, Mover};
+use spot_terms::{AccStart, Items, Mover};
 use std::alloc::{AllocError, Global};
-use std::marker::Model;
 
 /// A list of octagons.
-#[derive(Drop)]
-pub struct OctList {
-    items: Vec<OctNumbers>,
-}
-
-impl Model for OctList {
-    ghost use Rattle.std.specs.Prelude.{List};
-    ghost use Rattle.convex_poly.specs.declared.oct_numbers.OctNumbers.{OctNumbers};
-
-    ghost Value = { List OctNumbers };
-
-    ghost view = { λ l. l.items.items };
-}
-
-impl OctList {
-    /// The list of these items.
-    pub fn from_vec(items: Vec<OctNumbers>) -> Self
-        ensures { result ≡ items.items }
-    {
-        OctList { items }
-    }
-
-    /// The items, in order.
-    pub fn list(&self) -> &[OctNumbers]
-        ensures { result.now ≡ self.now }
-    {
-        &self.items
-    }
-}
+pub type OctList = Items<OctNumbers>;
 
 /// A participant: a dynamic obstacle whose initial time is 0.
 #[derive(Drop)]
