@@ -1,4 +1,5 @@
 //! Lists that contracts see as the list of their items.
+
 ghost use Rattle.std.specs.Prelude.{◌≡◌};
 
 use std::marker::Model;
