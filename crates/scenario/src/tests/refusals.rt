@@ -1,21 +1,21 @@
 //! One case for each check of each line of the profile, with the code and the place that are to be answered.
-use super::*;
-use spot_terms::Code;
+
+use crate::*;
 use spot_tree::read_tree;
 use std::alloc::{AllocError, Global};
 use std::process::Abort;
 use std::test::Fail;
 
-/// A piece of a text, what stands for it, and the refusal: its code, and the number of the element.
+// A piece of a text, what stands for it, and the refusal: its code, and the number of the element.
 type Refusal = (&'static str, &'static str, Code, u32);
 
-/// A piece of a text, and what stands for it, so that the text is accepted as before.
+// A piece of a text, and what stands for it, so that the text is accepted as before.
 type Acceptance = (&'static str, &'static str);
 
-/// Zeros, as many as the bytes of the longest number.
+// Zeros, as many as the bytes of the longest number.
 const ZEROS: &str = "0000000000000000000000000000000000000000000000000000000000000000";
 
-/// The answer to a text that has `'` for `"` and `~` for the zeros.
+// The answer to a text that has `'` for `"` and `~` for the zeros.
 fn fault_of(rt: &impl Abort, alloc: Global, text: &str) -> Result<Option<ReadFault>, Fail> {
     let quoted = text.replace(alloc, "'", "\"")?;
     let full = quoted.replace(alloc, "~", ZEROS)?;
@@ -24,7 +24,7 @@ fn fault_of(rt: &impl Abort, alloc: Global, text: &str) -> Result<Option<ReadFau
     Ok(read_scenario(alloc, &tree).err())
 }
 
-/// Asks that a text is accepted, and refused with each of these changes.
+// Asks that a text is accepted, and refused with each of these changes.
 fn are_refused(
     rt: &impl Abort,
     alloc: Global,
@@ -45,7 +45,7 @@ fn are_refused(
     Ok(())
 }
 
-/// Asks that a text is accepted with each of these changes.
+// Asks that a text is accepted with each of these changes.
 fn are_accepted(
     rt: &impl Abort,
     alloc: Global,
@@ -60,7 +60,7 @@ fn are_accepted(
     Ok(())
 }
 
-/// The root is element 0.
+// The root is element 0.
 const ROOT: &str = "['commonRoad',{'commonRoadVersion':'2020a','timeStepSize':'0.1'}]";
 
 const ROOT_REFUSALS: &[Refusal] = &[
@@ -111,9 +111,9 @@ fn checks_of_the_root(rt: HostRuntime) -> Result<(), Fail> {
     are_accepted(&rt, rt.alloc(), ROOT, ROOT_ACCEPTANCES)
 }
 
-/// The first lanelet is element 1, its left bound 2 with the points 3 and 6, its right bound 9 with the points 10 and
-/// 13. Behind each point are its x and its y. The second lanelet is 16, its bounds 17 and 24 with the points 18, 21, 25
-/// and 28.
+// The first lanelet is element 1, its left bound 2 with the points 3 and 6, its right bound 9 with the points 10 and
+// 13. Behind each point are its x and its y. The second lanelet is 16, its bounds 17 and 24 with the points 18, 21, 25
+// and 28.
 const LANELETS: &str = "['commonRoad',{'commonRoadVersion':'2020a','timeStepSize':'0.1'},
 ['lanelet',{'id':'1'},
 ['leftBound',['point',['x','11'],['y','12']],['point',['x','13'],['y','14']]],
@@ -244,8 +244,8 @@ fn checks_of_lanelets(rt: HostRuntime) -> Result<(), Fail> {
     are_accepted(&rt, rt.alloc(), LANELETS, LANELET_ACCEPTANCES)
 }
 
-/// The obstacle is element 1 and its type 2. Its shape is 3, with the rectangle 4 and its centre 7, the circle 10 and
-/// its centre 12, and the polygon 15 with the points 16 and 19. Its initial state is 22.
+// The obstacle is element 1 and its type 2. Its shape is 3, with the rectangle 4 and its centre 7, the circle 10 and
+// its centre 12, and the polygon 15 with the points 16 and 19. Its initial state is 22.
 const STATIC: &str = "['commonRoad',{'commonRoadVersion':'2020a','timeStepSize':'0.1'},
 ['staticObstacle',{'id':'1'},['type','unknown'],
 ['shape',['rectangle',['length','11'],['width','12'],['center',['x','13'],['y','14']]],
@@ -294,7 +294,7 @@ const STATIC_ACCEPTANCES: &[Acceptance] = &[
     ("'31'", "'-10000000'"),
 ];
 
-/// The shape of the obstacle, as it is read in obstacles of both kinds.
+// The shape of the obstacle, as it is read in obstacles of both kinds.
 const SHAPE_REFUSALS: &[Refusal] = &[
     ("['length','11'],", "", Code::Missing, 4),
     ("['width','12'],", "", Code::Missing, 4),
@@ -394,9 +394,9 @@ fn checks_of_static_obstacles(rt: HostRuntime) -> Result<(), Fail> {
     are_accepted(&rt, rt.alloc(), STATIC, SHAPE_ACCEPTANCES)
 }
 
-/// Up to the shape as the static obstacle. The initial state is element 22, its position 23 with the point 24, its
-/// orientation 27, its velocity 29 and its time 31. The trajectory is 33 and its state 34, with the position 35, the
-/// point 36 and the time 39.
+// Up to the shape as the static obstacle. The initial state is element 22, its position 23 with the point 24, its
+// orientation 27, its velocity 29 and its time 31. The trajectory is 33 and its state 34, with the position 35, the
+// point 36 and the time 39.
 const DYNAMIC: &str = "['commonRoad',{'commonRoadVersion':'2020a','timeStepSize':'0.1'},
 ['dynamicObstacle',{'id':'1'},['type','car'],
 ['shape',['rectangle',['length','11'],['width','12'],['center',['x','13'],['y','14']]],
@@ -566,8 +566,8 @@ fn checks_of_dynamic_obstacles(rt: HostRuntime) -> Result<(), Fail> {
     are_accepted(&rt, rt.alloc(), DYNAMIC, SHAPE_ACCEPTANCES)
 }
 
-/// The first problem is element 1 and its initial state 2, with the position 3, the point 4, the orientation 7, the
-/// velocity 9 and the time 11. The second problem is 13 and its initial state 14.
+// The first problem is element 1 and its initial state 2, with the position 3, the point 4, the orientation 7, the
+// velocity 9 and the time 11. The second problem is 13 and its initial state 14.
 const PROBLEMS: &str = "['commonRoad',{'commonRoadVersion':'2020a','timeStepSize':'0.1'},
 ['planningProblem',{'id':'1'},['initialState',['position',['point',['x','11'],['y','12']]],
 ['orientation',['exact','5']],['velocity',['exact','13']],['time',['exact','14']]]],
@@ -662,8 +662,8 @@ fn checks_of_problems(rt: HostRuntime) -> Result<(), Fail> {
     are_accepted(&rt, rt.alloc(), PROBLEMS, PROBLEM_ACCEPTANCES)
 }
 
-/// Static obstacles, elements 1 and 27, each before a dynamic one, 12 and 36, and then a problem, 51, and a lanelet,
-/// 65.
+// Static obstacles, elements 1 and 27, each before a dynamic one, 12 and 36, and then a problem, 51, and a lanelet,
+// 65.
 const MIXED: &str = "['commonRoad',{'commonRoadVersion':'2020a','timeStepSize':'0.1'},
 ['staticObstacle',{'id':'1'},['shape',['polygon',['point',['x','0'],['y','0']]]],
 ['initialState',['position',['point',['x','11'],['y','0']]]]],
@@ -713,7 +713,7 @@ fn ids_are_unique_in_each_group(rt: HostRuntime) -> Result<(), Fail> {
     are_accepted(&rt, rt.alloc(), MIXED, MIXED_ACCEPTANCES)
 }
 
-/// An obstacle with an id in place of the sign `#`.
+// An obstacle with an id in place of the sign `#`.
 const OBSTACLES: [&str; 2] = [
     ",['staticObstacle',{'id':'#'},['shape',['circle',['radius','1']]],
 ['initialState',['position',['point',['x','0'],['y','0']]]]]",
@@ -722,7 +722,7 @@ const OBSTACLES: [&str; 2] = [
 ['orientation',['exact','0']],['velocity',['exact','0']],['time',['exact','0']]]]",
 ];
 
-/// A scenario with so many obstacles, by turns static and dynamic.
+// A scenario with so many obstacles, by turns static and dynamic.
 fn crowd(alloc: Global, count: usize) -> Result<String, AllocError> {
     let mut text = String::from_str(
         alloc,
