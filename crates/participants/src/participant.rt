@@ -10,7 +10,7 @@ use acc_occupancy::AccRun;
 use convex_poly::OctNumbers;
 use lane_occupancy::{LanePolys, lane_polys};
 use lanelets::Network;
-use spot_terms::{AccStart, Items, Mover};
+use spot_terms::{AccStart, Horizon, Items, Mover};
 use std::alloc::{AllocError, Global};
 
 /// A list of octagons.
@@ -31,16 +31,14 @@ pub struct Participant {
     pub octs: OctList,
 }
 
-// The octagons of the intervals below `steps`, each of `k` ticks.
-fn octagons(alloc: Global, s: &AccStart, k: u32, steps: u32) -> Result<OctList, AllocError>
+// The octagons of the intervals.
+fn octagons(alloc: Global, s: &AccStart, h: Horizon) -> Result<OctList, AllocError>
     requires start { IsStart s.now }
-    requires ticks { (1 ≤ k) × (k ≤ 1000) }
-    requires steps { steps ≤ 100 }
-    ensures { IfOk result (λ octagons. AreOctagons s.now k steps octagons) }
+    ensures { IfOk result (λ octagons. AreOctagons s.now h.k h.steps octagons) }
 {
-    let mut items = Vec::with_capacity(alloc, steps as usize)?;
-    let mut run = AccRun::open(s, k);
-    for _ in 0..steps {
+    let mut items = Vec::with_capacity(alloc, h.steps as usize)?;
+    let mut run = AccRun::open(s, h.k);
+    for _ in 0..h.steps {
         items.push(run.next())?;
     }
     Ok(OctList::from_vec(items))
@@ -51,39 +49,33 @@ fn polygons(
     alloc: Global,
     net: &Network,
     outset: &Outset,
-    k: u32,
-    steps: u32,
+    h: Horizon,
 ) -> Result<LanePolys, AllocError>
     requires start { IsStart outset.now.start.start }
-    requires labels { HasLabels net.now k steps outset.now.start.start outset.now.labels }
-    requires ticks { (1 ≤ k) × (k ≤ 1000) }
-    requires steps { steps ≤ 100 }
-    ensures { IfOk result (λ polys. HasPolygons net.now k steps outset.now.start.start outset.now.labels polys) }
+    requires labels { HasLabels net.now h.k h.steps outset.now.start.start outset.now.labels }
+    ensures { IfOk result (λ polys. HasPolygons net.now h.k h.steps outset.now.start.start outset.now.labels polys) }
 {
     match &outset.labels {
-        Some(labels) => lane_polys(alloc, net, labels, &outset.start.start, k, steps),
+        Some(labels) => lane_polys(alloc, net, labels, &outset.start.start, h.k, h.steps),
         None => Ok(LanePolys::from_vec(Vec::new(alloc))),
     }
 }
 
-/// The participant that a dynamic obstacle is, with its occupancies in so many intervals of `k` ticks. The only error is
+/// The participant that a dynamic obstacle is, with its occupancies as far as the prediction looks. The only error is
 /// want of memory.
 pub fn participant_of(
     alloc: Global,
     net: &Network,
     m: &Mover,
     outset: &Outset,
-    k: u32,
-    steps: u32,
+    h: Horizon,
 ) -> Result<Participant, AllocError>
-    requires outset { IsOutset net.now k steps m.now outset.now }
-    requires ticks { (1 ≤ k) × (k ≤ 1000) }
-    requires steps { steps ≤ 100 }
-    ensures { IfOk result (λ p. IsHolding net.now k steps m.now p) }
+    requires outset { IsOutset net.now h.k h.steps m.now outset.now }
+    ensures { IfOk result (λ p. IsHolding net.now h.k h.steps m.now p) }
 {
     let Start { start, speed } = outset.start;
-    let octs = octagons(alloc, &start, k, steps)?;
-    let polys = polygons(alloc, net, outset, k, steps)?;
+    let octs = octagons(alloc, &start, h)?;
+    let polys = polygons(alloc, net, outset, h)?;
     Ok(Participant {
         id: m.id,
         start,
