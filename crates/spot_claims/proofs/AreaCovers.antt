@@ -1,19 +1,19 @@
 -- A run whose lists hold each motion, or strike it, gives a report that covers the ego.
-use Rattle.std.proofs.Common.{◌≡◌, ◌∙◌, ◌⊎◌, inl, inr, ℕ, zero, suc, ◌+◌, ◌-◌, ◌*◌, ◌<◌, ◌≤◌, refl, sym, ap, subst, arith, List, [], ◌∷◌, ◌++◌, map, length, Option, Some, None, get_or}
+use Rattle.std.proofs.Common.{◌≡◌, ◌⊎◌, inl, inr, ℕ, zero, suc, ◌+◌, ◌*◌, ◌<◌, ◌≤◌, refl, sym, subst, arith, List, [], ◌∷◌, ◌++◌, map, length, Option, Some, None, get_or}
 use Rattle.std.specs.Prelude.{slice_get}
 use Rattle.std.specs.List.{flat_map}
 use Rattle.std.proofs.lemmas.Option.{slice_get_within, slice_get-get_or}
 use Rattle.spot_terms.specs.Avoidance.{HoldsOrStrikes, IsHeldBy, IsStruckBy}
-use Rattle.spot_terms.specs.BaseSets.{SetValue, HoldsState}
+use Rattle.spot_terms.specs.BaseSets.{SetValue}
 use Rattle.spot_terms.specs.Courses.{Course, IsMotionOf}
 use Rattle.spot_terms.specs.LanePolygons.{LanePolygon}
-use Rattle.spot_terms.specs.Lists.{Includes, Pairwise, numbers_below}
+use Rattle.spot_terms.specs.Lists.{Includes, numbers_below}
 use Rattle.spot_terms.specs.Motions.{State}
 use Rattle.spot_terms.specs.OccupiedPieces.{discs}
 use Rattle.spot_terms.specs.declared.lines.Mode.TheVariants as mode
 use Rattle.spot_terms.specs.Pieces.{Piece, Hits}
 use Rattle.spot_terms.specs.Reach.{interval_numbers}
-use Rattle.spot_terms.specs.Report.{Line, head_line, time_line, mover_line, late_line, fixed_line, lane_line, occ_line, ego_line, disc_line, set_line, count_line, last_line}
+use Rattle.spot_terms.specs.Report.{Line, head_line, time_line, occ_line, ego_line, disc_line, set_line, count_line, last_line}
 use Rattle.spot_terms.specs.StepLists.{Follow, AreStepLists}
 use Rattle.spot_terms.specs.declared.command.Command.{Command}
 use Rattle.spot_terms.specs.declared.command.Task.{Task}
@@ -29,8 +29,8 @@ use Rattle.spot_terms.specs.declared.scenario.Scenario.{Scenario}
 use Rattle.spot_terms.proofs.ListLemmas.{includes_front, includes_back, includes_either, includes_map}
 use Rattle.spot_terms.proofs.Members.{in_map, in_flat_map}
 use Rattle.spot_claims.specs.AreaCovers.{Avoids, HasVelocities, AreaCovers, ReplayCovers}
-use Rattle.spot_claims.specs.AreaOf.{ArePieces, IsRun, IsAreaReport, IsReplayReport, step_lines, lines_from, area_lines}
-use Rattle.spot_claims.specs.EgoClaims.{CoversEgo, IsEgoLine, IsStruck, HasEntered, HasCollided}
+use Rattle.spot_claims.specs.AreaOf.{IsRun, step_lines, lines_from, area_lines}
+use Rattle.spot_claims.specs.EgoClaims.{CoversEgo, IsStruck, IsStruckIn, HasEntered, HasCollided}
 use Rattle.spot_claims.specs.Problems.{course_of, ego_of, ego_radius}
 use Rattle.spot_claims.specs.ReportOf.{IsTraffic, IsObstacleLine, start_of, movers_in, polygon_line, polygon_lines, occ_lines, fixed_of}
 use Rattle.spot_claims.proofs.Entered.{struck_is_entered, struck_is_collided, from_second}
@@ -220,12 +220,12 @@ ego_covered s c problem pieces lists end recorded lines run velocities avoids pr
       printed = printed (ego_line (ego_of problem course)) (inl refl);
       line = record { problem = problem; chosen = run.chosen; id = refl; p = refl; a = refl; v = refl; w = refl; g = refl; b = velocities };
       held = λ states motion i state le got free. elim (held_or_struck course (λ j. length (pieces j)) (λ j. Hits (pieces j)) c.steps lists end run.lists_are avoids i states state le motion got) [
-        | inl (sets, g, (b, at, holds)) ↦ (
-          b,
-          printed (set_line i b) (inr (includes_front (lines_from recorded 0 lists) (last_line end ∷ []) (set_line i b)
-              (subst (λ (x : ℕ). Includes (lines_from recorded 0 lists) (set_line x b)) (let q : 0 + i ≡ i = omega arith in q) (set_printed recorded 0 lists i sets b g at)))),
-          holds,
-        )
+        | inl (sets, g, (b, at, holds)) ↦ record {
+          base = b;
+          printed = printed (set_line i b) (inr (includes_front (lines_from recorded 0 lists) (last_line end ∷ []) (set_line i b)
+              (subst (λ (x : ℕ). Includes (lines_from recorded 0 lists) (set_line x b)) (let q : 0 + i ≡ i = omega arith in q) (set_printed recorded 0 lists i sets b g at))));
+          holds = holds;
+        }
         | inr by ↦ absurd (free (struck i states le by))
       ];
       struck = λ i told states motion state got.
@@ -248,10 +248,10 @@ module _ (course : Course) (count : ℕ → ℕ) (At : ℕ → ℕ → Pt → Ty
 -- ---- the two reports
 
 entered : (s : Scenario) (c : Command) (lines : List Line) (i : ℕ) (states : List State) → c.task ≡ Area → HasEntered s c lines i states → IsStruck s c lines i states
-entered s c lines i states e h = rw e h
+entered s c lines i states e h = subst (λ (task : Task). IsStruckIn task s c lines i states) (sym e) h
 
 collided : (s : Scenario) (c : Command) (lines : List Line) (i : ℕ) (states : List State) → c.task ≡ Replay → HasCollided s c i states → IsStruck s c lines i states
-collided s c lines i states e h = rw e h
+collided s c lines i states e h = subst (λ (task : Task). IsStruckIn task s c lines i states) (sym e) h
 
 pub area_covers : AreaCovers
 unfolding AreOther IsOther end_in
