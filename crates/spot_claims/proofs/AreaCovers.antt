@@ -115,7 +115,7 @@ set_printed recorded i (first ∷ lists) zero sets b e h =
     let same : first ≡ sets = one first sets e in
     let shown : Includes (map (set_line i) first) (set_line i b) = includes_map (set_line i) first b (subst (λ (x : List SetValue). Includes x b) (sym same) h) in
     let placed : Includes (step_lines i (recorded i) first) (set_line i b) = includes_front (map (λ (d : Disc). disc_line i d.id d.p d.r) (recorded i) ++ map (set_line i) first) (count_line i (length first) ∷ []) (set_line i b)
-        (includes_back (map (λ (d : Disc). disc_line i d.id d.p d.r) (recorded i)) (map (set_line i) first) (set_line i b) shown) in
+    (includes_back (map (λ (d : Disc). disc_line i d.id d.p d.r) (recorded i)) (map (set_line i) first) (set_line i b) shown) in
     let all : Includes (lines_from recorded i (first ∷ lists)) (set_line i b) = includes_front (step_lines i (recorded i) first) (lines_from recorded (i + 1) lists) (set_line i b) placed in
     let q : i ≡ i + zero = omega arith in
     subst (λ (x : ℕ). Includes (lines_from recorded i (first ∷ lists)) (set_line x b)) q all
@@ -172,10 +172,10 @@ unfolding AreOther IsOther end_in
 traffic_other s c traffic t line i =
     let k : Includes (t.obstacles ++ map fixed_of s.fixed ++ polygon_lines (movers_in t.obstacles) t.polygons ++ flat_map (occ_lines s c) (movers_in t.obstacles)) line = subst (λ (l : List Line). Includes l line) t.lines_are i in
     both_other (t.obstacles ++ map fixed_of s.fixed ++ polygon_lines (movers_in t.obstacles) t.polygons) (flat_map (occ_lines s c) (movers_in t.obstacles))
-        (both_other (t.obstacles ++ map fixed_of s.fixed) (polygon_lines (movers_in t.obstacles) t.polygons)
-            (both_other t.obstacles (map fixed_of s.fixed) (λ l j. let (m, at, h) = from_second (IsObstacleLine s) s.movers t.obstacles l t.obstacles_are j in obstacle_other s m l h) (map_other fixed_of (λ f. refl) s.fixed))
-            (polygons_other (movers_in t.obstacles) t.polygons))
-        (occupied_other s c (movers_in t.obstacles)) line k
+    (both_other (t.obstacles ++ map fixed_of s.fixed) (polygon_lines (movers_in t.obstacles) t.polygons)
+    (both_other t.obstacles (map fixed_of s.fixed) (λ l j. let (m, at, h) = from_second (IsObstacleLine s) s.movers t.obstacles l t.obstacles_are j in obstacle_other s m l h) (map_other fixed_of (λ f. refl) s.fixed))
+    (polygons_other (movers_in t.obstacles) t.polygons))
+    (occupied_other s c (movers_in t.obstacles)) line k
 
 steps_other : (recorded : ℕ → List Disc) (i : ℕ) (lists : List (List SetValue)) → AreOther (lines_from recorded i lists)
 unfolding AreOther IsOther end_in
@@ -229,9 +229,9 @@ ego_covered s c problem pieces lists end recorded lines run velocities avoids pr
         | inr by ↦ absurd (free (struck i states le by))
       ];
       struck = λ i told states motion state got.
-        let same : Empty i ≡ end = ends (Empty i) told in
-        let are : AreStepLists course (λ j. length (pieces j)) (λ j. Hits (pieces j)) c.steps lists (Empty i) = subst (λ (x : End). AreStepLists course (λ j. length (pieces j)) (λ j. Hits (pieces j)) c.steps lists x) (sym same) run.lists_are in
-        struck i states (within i are) (all_struck course (λ j. length (pieces j)) (λ j. Hits (pieces j)) c.steps lists i are avoids states state motion got);
+          let same : Empty i ≡ end = ends (Empty i) told in
+          let are : AreStepLists course (λ j. length (pieces j)) (λ j. Hits (pieces j)) c.steps lists (Empty i) = subst (λ (x : End). AreStepLists course (λ j. length (pieces j)) (λ j. Hits (pieces j)) c.steps lists x) (sym same) run.lists_are in
+          struck i states (within i are) (all_struck course (λ j. length (pieces j)) (λ j. Hits (pieces j)) c.steps lists i are avoids states state motion got);
     }
 
 -- an empty end comes at a step of the run
@@ -260,13 +260,13 @@ area_covers s c lines end r area some velocities avoids =
     let back : List Line = area_lines r.problem course (λ i. []) r.lists end in
     let front : List Line = ego_line (ego_of r.problem course) ∷ lines_from (λ i. []) 0 r.lists in
     let from_back : (line : Line) → Includes (area_lines r.problem (course_of s c r.problem) (λ i. []) r.lists end) line → Includes lines line = λ line i.
-        subst (λ (l : List Line). Includes l line) (sym r.lines_are) (inr (inr (includes_back r.traffic (area_lines r.problem (course_of s c r.problem) (λ i. []) r.lists end) line i))) in
+    subst (λ (l : List Line). Includes l line) (sym r.lines_are) (inr (inr (includes_back r.traffic (area_lines r.problem (course_of s c r.problem) (λ i. []) r.lists end) line i))) in
     let from_traffic : (line : Line) → Includes r.traffic line → Includes lines line = λ line i.
-        subst (λ (l : List Line). Includes l line) (sym r.lines_are) (inr (inr (includes_front r.traffic (area_lines r.problem (course_of s c r.problem) (λ i. []) r.lists end) line i))) in
+    subst (λ (l : List Line). Includes l line) (sym r.lines_are) (inr (inr (includes_front r.traffic (area_lines r.problem (course_of s c r.problem) (λ i. []) r.lists end) line i))) in
     ego_covered s c r.problem r.pieces r.lists end (λ i. []) lines r.run velocities avoids from_back
-        (λ e i. ends_area e (subst (λ (l : List Line). Includes l (last_line e)) r.lines_are i))
-        (λ i states le by. entered s c lines i states area (struck_is_entered s c (course_of s c r.problem) r.traffic lines r.pieces i states area some le refl r.traffic_is from_traffic r.run.pieces_are by))
-        (λ i are. ends_within (course_of s c r.problem) (λ j. length (r.pieces j)) (λ j. Hits (r.pieces j)) c.steps r.lists i are)
+    (λ e i. ends_area e (subst (λ (l : List Line). Includes l (last_line e)) r.lines_are i))
+    (λ i states le by. entered s c lines i states area (struck_is_entered s c (course_of s c r.problem) r.traffic lines r.pieces i states area some le refl r.traffic_is from_traffic r.run.pieces_are by))
+    (λ i are. ends_within (course_of s c r.problem) (λ j. length (r.pieces j)) (λ j. Hits (r.pieces j)) c.steps r.lists i are)
   where
     ends_area : (e : End) → Includes (head_line mode.Area ∷ time_line s.step c.steps ∷ r.traffic ++ area_lines r.problem (course_of s c r.problem) (λ i. []) r.lists end) (last_line e) → e ≡ end
     ends_area e (inl f) = absurd (let g : last_line e ≡ head_line mode.Area = f in cc)
@@ -281,11 +281,11 @@ pub replay_covers : ReplayCovers
 unfolding AreOther IsOther end_in
 replay_covers s c lines end r replay velocities avoids =
     let from_back : (line : Line) → Includes (area_lines r.problem (course_of s c r.problem) (discs s (ego_radius c)) r.lists end) line → Includes lines line = λ line i.
-        subst (λ (l : List Line). Includes l line) (sym r.lines_are) (inr (inr i)) in
+    subst (λ (l : List Line). Includes l line) (sym r.lines_are) (inr (inr i)) in
     ego_covered s c r.problem r.pieces r.lists end (discs s (ego_radius c)) lines r.run velocities avoids from_back
-        (λ e i. ends_replay e (subst (λ (l : List Line). Includes l (last_line e)) r.lines_are i))
-        (λ i states le by. collided s c lines i states replay (struck_is_collided s c (course_of s c r.problem) r.pieces i states replay le refl r.run.pieces_are by))
-        (λ i are. ends_within (course_of s c r.problem) (λ j. length (r.pieces j)) (λ j. Hits (r.pieces j)) c.steps r.lists i are)
+    (λ e i. ends_replay e (subst (λ (l : List Line). Includes l (last_line e)) r.lines_are i))
+    (λ i states le by. collided s c lines i states replay (struck_is_collided s c (course_of s c r.problem) r.pieces i states replay le refl r.run.pieces_are by))
+    (λ i are. ends_within (course_of s c r.problem) (λ j. length (r.pieces j)) (λ j. Hits (r.pieces j)) c.steps r.lists i are)
   where
     ends_replay : (e : End) → Includes (head_line mode.Replay ∷ time_line s.step c.steps ∷ area_lines r.problem (course_of s c r.problem) (discs s (ego_radius c)) r.lists end) (last_line e) → e ≡ end
     ends_replay e (inl f) = absurd (let g : last_line e ≡ head_line mode.Replay = f in cc)

@@ -1,13 +1,12 @@
 -- What a prediction prints of an obstacle, it prints once.
-use Rattle.std.proofs.Common.{◌≡◌, ◌∙◌, inl, inr, ℕ, zero, suc, ◌+◌, ◌==◌, Bool, true, false, cond, List, [], ◌∷◌, ◌++◌, map, refl, sym, ap, subst, arith, ℤ}
+use Rattle.std.proofs.Common.{◌≡◌, ◌∙◌, inl, inr, ℕ, zero, suc, ◌+◌, ◌==◌, true, false, cond, List, [], ◌∷◌, ◌++◌, map, refl, sym, ap, subst, ℤ}
 use Rattle.std.specs.List.{flat_map}
 use Rattle.spot_terms.specs.Ids.{HaveUniqueIds}
-use Rattle.spot_terms.specs.Lists.{Includes, AreDistinct, Pairwise, numbers_from}
+use Rattle.spot_terms.specs.Lists.{Includes, AreDistinct, numbers_from}
 use Rattle.spot_terms.specs.Participants.{starting}
 use Rattle.spot_terms.specs.Reach.{interval_numbers, disc_numbers}
-use Rattle.spot_terms.specs.Report.{Line, head_line, time_line, mover_line, late_line, fixed_line, lane_line, occ_line, last_line}
+use Rattle.spot_terms.specs.Report.{Line, mover_line, late_line, fixed_line, occ_line, last_line}
 use Rattle.spot_terms.specs.declared.lines.MoverLine.{MoverLine}
-use Rattle.spot_terms.specs.declared.lines.Mode.TheVariants as mode
 use Rattle.spot_terms.specs.declared.lines.End.TheVariants as end
 use Rattle.spot_terms.specs.declared.scenario.Fixed.{Fixed}
 use Rattle.spot_terms.specs.declared.scenario.Mover.{Mover}

@@ -5,10 +5,10 @@ use Rattle.spot_terms.specs.Causes.{Takes}
 use Rattle.spot_terms.specs.Ids.{HaveUniqueIds}
 use Rattle.spot_terms.specs.Ranges.{IsInRange}
 use Rattle.spot_terms.specs.Statuses.{IsDone}
-use Rattle.spot_terms.specs.Tasks.{ReadsInput, PredictsTraffic, FindsArea}
+use Rattle.spot_terms.specs.Tasks.{ReadsInput, PredictsTraffic}
 use Rattle.spot_terms.specs.declared.command.Command.{Command}
 use Rattle.spot_terms.specs.declared.command.Task.{Task}
-use Rattle.spot_terms.specs.declared.command.Task.TheVariants.{Predict, Area, Replay, Draw, Sample}
+use Rattle.spot_terms.specs.declared.command.Task.TheVariants.{Predict}
 use Rattle.spot_terms.specs.declared.scenario.Scenario.{Scenario}
 use Rattle.spot_terms.specs.declared.status.Code.{Code}
 use Rattle.spot_terms.specs.declared.status.Code.TheVariants.{NotJson, NotTree, NoProblem, LateProblem, EgoTooFast, NotYet}
@@ -18,20 +18,20 @@ use Rattle.spot_terms.specs.declared.status.Status.TheVariants.{Open, Empty, Bad
 use Rattle.spot_tree.proofs.Readings.{one_tree, one_place, tree_is_json, fault_is_json, tree_has_no_fault}
 use Rattle.scenario.proofs.OneRefusal.{one_refusal}
 use Rattle.lanelets.specs.Buildable.{AreBuildable}
-use Rattle.spot_claims.specs.Answers.{IsOutside, ExactlyWhere, BadWordsExactly, ReadFaultOnly, TooLongExactly, NotJsonExactly, NotTreeExactly, IsRefusedAt, IsOfCheck, RefusedExactly, ExactlyFor, HasNoProblem, NoProblemExactly, HasLateProblem, LateProblemExactly, HasFastProblem, EgoTooFastExactly, HasManyCells, TooManyCellsExactly, HasWideLane, LaneTooWideExactly, HasManyPairs, TooManyLanePolygonsExactly, HasWideArea, AreaTooWideExactly, HasManyBoxes, TooManyBoxesExactly, WriteFaultOnly, IsLeftOut, NotYetExactly, AreFor, EndsEmpty, IsKnownAs, IsKnown}
+use Rattle.spot_claims.specs.Answers.{IsOutside, ExactlyWhere, BadWordsExactly, ReadFaultOnly, TooLongExactly, NotJsonExactly, NotTreeExactly, IsRefusedAt, IsOfCheck, RefusedExactly, ExactlyFor, HasNoProblem, NoProblemExactly, HasLateProblem, LateProblemExactly, HasFastProblem, EgoTooFastExactly, HasManyCells, TooManyCellsExactly, HasWideLane, LaneTooWideExactly, HasManyPairs, TooManyLanePolygonsExactly, HasWideArea, AreaTooWideExactly, HasManyBoxes, TooManyBoxesExactly, WriteFaultOnly, NotYetExactly, AreFor, IsKnownAs, IsKnown}
 use Rattle.spot_claims.specs.Built.{IsBuilt, IsBuiltWhole}
 use Rattle.spot_claims.specs.Headline.{Headline}
 use Rattle.spot_claims.specs.Outcomes.{IsAfterReading, ReadsSource, IsAcceptedInput, PassesAll, Fails, Completes, WritesOutput}
 use Rattle.spot_claims.specs.Outputs.{IsWritten}
 use Rattle.spot_claims.specs.Profile.{IsAccepted, IsRefused}
 use Rattle.spot_claims.specs.Runs.{Run, ReadFails, WriteFails}
-use Rattle.spot_claims.specs.Scenario.{IsScenario, IsScenarioOf}
-use Rattle.spot_claims.specs.Stages.{most_bytes, AreNoCommand, AreForReading, IsRead, IsInput, IsTold, IsAccepting, IsWithinTraffic}
+use Rattle.spot_claims.specs.Scenario.{IsScenarioOf}
+use Rattle.spot_claims.specs.Stages.{most_bytes, AreNoCommand, AreForReading, IsRead, IsInput, IsAccepting, IsWithinTraffic}
 use Rattle.spot_claims.specs.Tree.{Element, IsTreeOf, IsNoJson, HasFaultAt}
 use Rattle.spot_run.specs.Loads.{IsReadWhole, Loads, IsLoadFault}
-use Rattle.spot_run.specs.Writes.{IsPastLimit, WritesPrediction}
+use Rattle.spot_run.specs.Writes.{WritesPrediction}
 use Rattle.spot_run.proofs.Limits.{exactly_for, past_none, too_many_cells, lane_too_wide, too_many_lane_polygons}
-use Rattle.spot_run.proofs.Runs.{IsForPrediction, read_some, HasLoaded, for_reading, reads_input, predicts, finds_none, is_built, is_built_whole, input_of, headline, output}
+use Rattle.spot_run.proofs.Runs.{IsForPrediction, read_some, HasLoaded, for_reading, reads_input, predicts, finds_none, is_built, input_of, headline, output}
 
 -- all that is said of a run
 pub record AllHold (run : Run) : Type 0 where
@@ -316,8 +316,8 @@ complete_for : (run : Run) (c : Command) → IsForPrediction run c
 complete_for run c for at = λ d bytes stands. subst (λ (x : Command). IsBuilt x.task → IsInput x run.told bytes → IsAcceptedInput x bytes → ((s : Scenario) → IsScenarioOf bytes s → PassesAll s x) → (Fails run → ⊥) → IsDone run.status ⊎ (run.status ≡ Memory))
     (sym (for.only d stands))
     (λ built input accepted passes none.
-        let (told, few) = input_of c for.task run.told bytes input in
-        let (tree, tree_is, is) = accepted (reads_input c for.task) in at bytes tree told few tree_is is passes none)
+    let (told, few) = input_of c for.task run.told bytes input in
+    let (tree, tree_is, is) = accepted (reads_input c for.task) in at bytes tree told few tree_is is passes none)
 
 fault_holds : (run : Run) (c : Command) → HasFailed run c → AllHold run
 fault_holds run c h = record {

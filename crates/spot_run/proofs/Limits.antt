@@ -14,8 +14,7 @@ use Rattle.scenario.proofs.Unique.{both_some}
 use Rattle.convex_poly.proofs.Places.{order}
 use Rattle.spot_claims.specs.Answers.{ExactlyWhere, IsOutside, HasManyCells, HasWideLane, HasManyPairs, ExactlyFor, TooManyCellsExactly, LaneTooWideExactly, TooManyLanePolygonsExactly}
 use Rattle.spot_claims.specs.Runs.{Run}
-use Rattle.spot_claims.specs.Scenario.{IsScenarioOf}
-use Rattle.spot_claims.specs.Stages.{IsTold, IsAccepting, IsWithinTraffic, most_pairs}
+use Rattle.spot_claims.specs.Stages.{IsTold, IsAccepting, most_pairs}
 use Rattle.participants.proofs.OneNumber.{pairs_are_one}
 use Rattle.spot_run.specs.Writes.{IsPastLimit, WritesPrediction}
 use Rattle.spot_run.proofs.CellSizes.{item_below}

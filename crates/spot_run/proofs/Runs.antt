@@ -1,9 +1,8 @@
 -- What a run says, from what its parts say.
-use Rattle.std.proofs.Common.{◌≡◌, ◌≢◌, ◌∙◌, ◌⊎◌, inl, inr, ℕ, ◌<◌, ◌≤◌, List, [], ◌∷◌, ◌++◌, length, Option, Some, None, Err, refl, sym, ap, subst, arith, append-nil}
+use Rattle.std.proofs.Common.{◌≡◌, ◌∙◌, ℕ, ◌≤◌, List, [], ◌∷◌, ◌++◌, length, Option, Some, None, refl, sym, ap, subst, append-nil}
 use Rattle.std.specs.Prelude.{IfSome, IfNone}
 use Rattle.std.specs.Io.KnownBytes.{Appends}
 use Rattle.std.proofs.lemmas.List.{append_cancel_left}
-use Rattle.spot_terms.specs.Causes.{AppendsFront}
 use Rattle.spot_terms.specs.Ids.{HaveUniqueIds}
 use Rattle.spot_terms.specs.LaneMotions.{IsLaneMotion}
 use Rattle.spot_terms.specs.Lists.{Includes}
@@ -16,11 +15,9 @@ use Rattle.spot_terms.specs.Tasks.{ReadsInput, PredictsTraffic, FindsArea}
 use Rattle.spot_terms.specs.declared.command.Command.{Command}
 use Rattle.spot_terms.specs.declared.command.Task.{Task}
 use Rattle.spot_terms.specs.declared.command.Task.TheVariants.{Predict}
-use Rattle.spot_terms.specs.declared.lines.End.{End}
 use Rattle.spot_terms.specs.declared.lines.End.TheVariants as end
 use Rattle.spot_terms.specs.declared.lines.Mode.TheVariants as mode
 use Rattle.spot_terms.specs.declared.lines.MoverLine.{MoverLine}
-use Rattle.spot_terms.specs.declared.scenario.Fixed.{Fixed}
 use Rattle.spot_terms.specs.declared.scenario.Mover.{Mover}
 use Rattle.spot_terms.specs.declared.scenario.Scenario.{Scenario}
 use Rattle.spot_terms.specs.declared.status.Status.{Status}
@@ -31,10 +28,10 @@ use Rattle.scenario.proofs.Unique.{scenario_is_one}
 use Rattle.lanelets.specs.Buildable.{AreBuildable}
 use Rattle.spot_claims.specs.Built.{IsBuilt, IsBuiltWhole}
 use Rattle.spot_claims.specs.Headline.{BeginsWith, ClaimsOf, Claims, Reports, Headline}
-use Rattle.spot_claims.specs.Outcomes.{MayBeInput, PassesAll, TakesOutput, WritesOutput}
-use Rattle.spot_claims.specs.Outputs.{IsReportText, IsOutputOf, IsOutput, IsWritten, status_of, Writes}
+use Rattle.spot_claims.specs.Outcomes.{MayBeInput, TakesOutput, WritesOutput}
+use Rattle.spot_claims.specs.Outputs.{IsOutputOf, IsOutput, IsWritten, status_of, Writes}
 use Rattle.spot_claims.specs.ParticipantClaims.{HoldsTick, IsAdmissible, IsCovered, CoversMover, CoversParticipants}
-use Rattle.spot_claims.specs.Runs.{Run, ReadFails, WriteFails}
+use Rattle.spot_claims.specs.Runs.{Run, WriteFails}
 use Rattle.spot_claims.specs.Scenario.{IsScenario, IsScenarioOf}
 use Rattle.spot_claims.specs.Stages.{IsInputOf, IsInput, PassesToNetwork, IsWithinTraffic, IsWithinLimits, most_bytes, AreForReading}
 use Rattle.participants.specs.Predictions.{Occupancies}
