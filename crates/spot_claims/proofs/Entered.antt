@@ -30,8 +30,8 @@ use Rattle.spot_claims.specs.Problems.{ego_radius}
 use Rattle.spot_claims.specs.ReportOf.{start_of, IsExactMover, IsObstacleLine, movers_in, ArePolygonsOf, polygon_line, polygon_lines, occ_lines, fixed_of, IsTraffic}
 use Rattle.spot_claims.specs.Entered.{StruckIsEntered, StruckIsCollided}
 use Rattle.spot_claims.proofs.OneReport.{area_pieces, replay_pieces}
-use Rattle.spot_claims.proofs.OneStart.{start_one, speed_one}
-use Rattle.spot_claims.proofs.OneTraffic.{polygons_one}
+use Rattle.spot_terms.proofs.OneStart.{start_one, speed_one}
+use Rattle.spot_terms.proofs.OneLabel.{polygons_one}
 
 -- ---- lists
 

@@ -17,7 +17,9 @@ use Rattle.spot_claims.specs.AreaOf.{ArePieces, IsRun, IsAreaReport, IsReplayRep
 use Rattle.spot_claims.specs.OneReport.{ReportsAreOne}
 use Rattle.spot_claims.specs.Problems.{ego_radius, course_of}
 use Rattle.spot_claims.specs.ReportOf.{IsPredictReport}
-use Rattle.spot_claims.proofs.OneTraffic.{pairwise_one, some_one, occupant_one, traffic_one}
+use Rattle.spot_terms.proofs.OneLabel.{occupant_one}
+use Rattle.spot_terms.proofs.Unique.{pairwise_one, some_one}
+use Rattle.spot_claims.proofs.OneTraffic.{traffic_one}
 
 module _ (s : Scenario) (c : Command) where
   occupants_one : (os ps : List Occupant) → AreOccupants s c.steps os → AreOccupants s c.steps ps → os ≡ ps

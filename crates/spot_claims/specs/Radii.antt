@@ -40,3 +40,13 @@ IsInscribed tree shape small = (big : ℕ) × PartRadii tree shape big small
 pub record HasRadii (tree : List Element) (shape enclosing inscribed : ℕ) : Type 0 where
   pub enclosing_is : IsGreatest (IsEnclosing tree shape) enclosing
   pub inscribed_is : IsGreatest (IsInscribed tree shape) inscribed
+
+-- ---- examples: a rectangle of 4.5 m by 1.800001 m whose centre is 500 µm or 1 m off
+
+row_odd : (tree : List Element) (shape e r : ℕ) → Includes (all_named tree (codes "rectangle") shape) e → Holds tree e (codes "length") 6 (pos 4_500_000) → Holds tree e (codes "width") 6 (pos 1_800_001)
+    → IsLeast (λ q. 4_500_000 * 4_500_000 + 1_800_001 * 1_800_001 ≤ 4 * (q * q)) r → IsOffset tree e 500 → PartRadii tree shape (r + 500) 899_500
+row_odd tree shape e r listed long wide least off = rectangle e 4_500_000 1_800_001 r 500 listed long wide least off
+
+row_far : (tree : List Element) (shape e r : ℕ) → Includes (all_named tree (codes "rectangle") shape) e → Holds tree e (codes "length") 6 (pos 4_500_000) → Holds tree e (codes "width") 6 (pos 1_800_001)
+    → IsLeast (λ q. 4_500_000 * 4_500_000 + 1_800_001 * 1_800_001 ≤ 4 * (q * q)) r → IsOffset tree e 1_000_000 → PartRadii tree shape (r + 1_000_000) 0
+row_far tree shape e r listed long wide least off = rectangle e 4_500_000 1_800_001 r 1_000_000 listed long wide least off

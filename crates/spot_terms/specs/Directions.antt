@@ -1,6 +1,6 @@
 -- The polynomial cosine and sine of an angle in µrad, the start velocities of a speed and an angle, and the box that
 -- is computed for them.
-use Rattle.std.specs.Prelude.{◌≡◌, ℕ, zero, suc, ◌+◌, ◌-◌, ◌*◌, ◌/◌, ◌%◌, ◌^◌, ◌==◌, ◌≤◌, if◌then◌else◌, ℤ, pos, neg_ℤ, ◌+ℤ◌, ◌-ℤ◌, ◌*ℤ◌, int_lt, nat_abs, refl}
+use Rattle.std.specs.Prelude.{◌≡◌, ℕ, zero, suc, ◌+◌, ◌-◌, ◌*◌, ◌/◌, ◌%◌, ◌^◌, ◌==◌, ◌≤◌, if◌then◌else◌, ℤ, pos, neg_ℤ, ◌+ℤ◌, ◌-ℤ◌, ◌*ℤ◌, int_lt, nat_abs, nat_le, List, [], ◌∷◌, map, true, false, refl}
 use Rattle.std.specs.Int.{int_pow}
 use Rattle.spot_terms.specs.Whole.{square, quotient_floor, quotient_ceiling}
 use Rattle.spot_terms.specs.declared.plain.VBox.{VBox}
@@ -87,3 +87,16 @@ row_slanted = refl
 row_still : start_box (pos 0) (pos 0) ≡ record { xlo = neg_ℤ (pos 1); xhi = pos 1; ylo = neg_ℤ (pos 1); yhi = pos 1 }
 unfolding start_box rough_sum rough_term alternating
 row_still = refl
+
+row_cosine : cosine (pos 0) ≡ pos denominator
+unfolding denominator factorial polynomial exact_term alternating
+row_cosine = refl
+
+row_sine : sine (pos 0) ≡ pos 0
+unfolding denominator factorial polynomial exact_term alternating
+row_sine = refl
+
+-- the start velocities along x of 10 m/s at about an eighth of a turn are 7071 and 7072
+row_velocities : map (λ v. nat_le (nat_abs (pos v *ℤ pos denominator -ℤ pos 10000 *ℤ cosine (pos 785398))) denominator) (7070 ∷ 7071 ∷ 7072 ∷ 7073 ∷ []) ≡ false ∷ true ∷ true ∷ false ∷ []
+unfolding denominator factorial polynomial exact_term alternating
+row_velocities = refl

@@ -62,6 +62,10 @@ pub record AreCommand (words : List Text) (c : Command) : Type 0 where
 abbrev pub StandsFor : List (String Global) → Command → Type 0
 StandsFor words c = AreCommand (map string_bytes words) c
 
+-- words stand for one command at most
+abbrev pub WordsAreOne : Type 0
+WordsAreOne = (words : List (String Global)) (c d : Command) → StandsFor words c → StandsFor words d → c ≡ d
+
 -- ---- examples
 
 row_good : fault_of spot_app (codes "spot" ∷ codes "area" ∷ codes "--steps" ∷ codes "4" ∷ []) ≡ []
