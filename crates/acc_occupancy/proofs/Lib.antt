@@ -5,5 +5,4 @@ pub mod LineSizes
 pub mod Motions
 pub mod Rows
 pub mod Sizes
-pub mod StepLemmas
 pub mod Starts

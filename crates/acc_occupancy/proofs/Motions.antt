@@ -15,7 +15,7 @@ use Rattle.spot_terms.proofs.Products.{products}
 use Rattle.spot_terms.proofs.Normals.{each_normal, along-east, along-north_east, along-north, along-north_west, along-west, along-south_west, along-south, along-south_east}
 use Rattle.round_out.proofs.Discs.{within_disc, sum_along, difference}
 use Rattle.acc_occupancy.proofs.Sizes.{a_small, v_small}
-use Rattle.acc_occupancy.proofs.StepLemmas.{step_at, bound_at, start_at}
+use Rattle.spot_terms.proofs.Steps.{step_at, bound_at, start_at}
 
 -- ---- one tick
 
