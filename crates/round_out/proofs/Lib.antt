@@ -18,3 +18,4 @@ pub mod ClipKeeps
 pub mod ClipHulls
 pub mod ClipCounts
 pub mod ClipCases
+pub mod TwoClips

@@ -2,3 +2,4 @@
 pub mod Origin
 pub mod Frames
 pub mod Clips
+pub mod Parts

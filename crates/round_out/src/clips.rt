@@ -73,7 +73,7 @@ pub fn clip_v_min(p: &Poly, c: i64) -> Option<Poly>
 
 /// A side of a line along an axis.
 #[derive(Clone, Copy)]
-enum Side {
+pub(crate) enum Side {
     /// x at most a bound.
     XMax,
     /// -x at most a bound.
@@ -101,7 +101,7 @@ impl Side {
 }
 
 /// The polygon on the side, up to the bound `c`.
-fn clip(p: &Poly, side: Side, c: i64) -> Option<Poly>
+pub(crate) fn clip(p: &Poly, side: Side, c: i64) -> Option<Poly>
     requires corners { length p.now ≤ 19 }
     requires line { SizeAtMost 40_000_000_000_000 c }
     ensures clip { IsClip (reflection side) c p.now result }
@@ -123,7 +123,7 @@ fn clip(p: &Poly, side: Side, c: i64) -> Option<Poly>
 }
 
 /// Whether no corner is past the line.
-fn are_on_side(corners: &[Pt], side: Side, c: i64) -> bool
+pub(crate) fn are_on_side(corners: &[Pt], side: Side, c: i64) -> bool
     requires { AllByRecursion IsPosition corners.now }
     ensures { IsTrue result ↔ AllByRecursion (λ v. (reflection side v).x ≤ℤ c) corners.now }
 {

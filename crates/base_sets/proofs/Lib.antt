@@ -1,0 +1,4 @@
+pub mod Axes
+pub mod Slots
+pub mod Places
+pub mod Passes

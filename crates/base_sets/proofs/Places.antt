@@ -1,0 +1,58 @@
+-- The least and the greatest place of a polygon.
+use Rattle.std.proofs.Common.{◌≡◌, ◌∙◌, ◌≤◌, arith, refl, sym, ap, subst, ℤ, pos, ◌+ℤ◌, ◌*ℤ◌, ◌≤ℤ◌, List, [], ◌∷◌, map, inl, inr, to_z, of_z, w64, get_or}
+use Rattle.std.specs.Prelude.{nat_abs}
+use Rattle.std.specs.Int.{int_min}
+use Rattle.std.specs.List.{AllByRecursion}
+use Rattle.std.proofs.lemmas.Int.{ints, clamps}
+use Rattle.spot_terms.specs.declared.plain.Pt.{Pt}
+use Rattle.spot_terms.specs.BaseSets.{least_place, greatest_place}
+use Rattle.spot_terms.specs.ChildNumbers.{support}
+use Rattle.spot_terms.specs.Hull.{Before, IsCornerList, IsSupport}
+use Rattle.spot_terms.specs.Reach.{along}
+use Rattle.spot_terms.specs.Whole.{greatest, least}
+use Rattle.convex_poly.specs.Polygons.{IsPolygon, IsPosition}
+use Rattle.spot_terms.proofs.Supports.{supports_are}
+
+least_same : (z : ℤ) (xs : List ℤ) → AllByRecursion (λ x. z ≤ℤ x) xs → least z xs ≡ z
+least_same z [] h = refl
+least_same z (x ∷ xs) h =
+    let first : int_min z x ≡ z = (let l = h.0 in omega (arith, ints, clamps)) in
+    ap (λ (y : ℤ). least y xs) first ∙ least_same z xs h.1
+
+all_east : (a : Pt) (rest : List Pt) → AllByRecursion (Before a) rest → AllByRecursion (λ x. a.x ≤ℤ x) (map (λ d. d.x) rest)
+all_east a [] h = tt
+all_east a (b ∷ rest) h = (east a b h.0, all_east a rest h.1)
+  where
+    east : (a b : Pt) → Before a b → a.x ≤ℤ b.x
+    east a b (inl l) = omega (arith, ints, l)
+    east a b (inr e) = omega (arith, ints, e.0)
+
+pub first_place : (vs us : List Pt) (d : Pt) → us ≡ vs → IsPolygon vs → to_z w64 (of_z w64 (get_or us 0 d).x) ≡ least_place vs
+first_place vs us d e h = subst (λ (z : List Pt). to_z w64 (of_z w64 (get_or z 0 d).x) ≡ least_place vs) (sym e) (at vs h.convex h.positions)
+  where
+    read : (z : ℤ) → nat_abs z ≤ 40_000_000_000_000 → to_z w64 (of_z w64 z) ≡ z
+    read z h = omega (arith, ints)
+
+    at : (vs : List Pt) → IsCornerList vs → AllByRecursion IsPosition vs → to_z w64 (of_z w64 (get_or vs 0 d).x) ≡ least_place vs
+    at [] c p = absurd c
+    at (a ∷ rest) c p = read a.x p.0.x ∙ sym (least_same a.x (map (λ d. d.x) rest) (all_east a rest c.0))
+
+places_east : (vs : List Pt) → map (along (pos 1, pos 0)) vs ≡ map (λ d. d.x) vs
+places_east [] = refl
+places_east (v ∷ vs) =
+    let first : along (pos 1, pos 0) v ≡ v.x = plain v.x v.y in
+    let rest : map (along (pos 1, pos 0)) vs ≡ map (λ d. d.x) vs = places_east vs in
+    ap (λ (z : ℤ). z ∷ map (along (pos 1, pos 0)) vs) first ∙ ap (λ (zs : List ℤ). v.x ∷ zs) rest
+  where
+    plain : (x y : ℤ) → pos 1 *ℤ x +ℤ pos 0 *ℤ y ≡ x
+    plain x y = omega (arith, ints)
+
+support_east : (vs : List Pt) → support (pos 1, pos 0) vs ≡ greatest_place vs
+support_east [] = refl
+support_east (v ∷ vs) = ap (λ (z : ℤ). greatest z (map (along (pos 1, pos 0)) vs)) (plain v.x v.y) ∙ ap (λ (zs : List ℤ). greatest v.x zs) (places_east vs)
+  where
+    plain : (x y : ℤ) → pos 1 *ℤ x +ℤ pos 0 *ℤ y ≡ x
+    plain x y = omega (arith, ints)
+
+pub last_place : (vs : List Pt) (r : ℤ) → IsSupport vs (pos 1) (pos 0) r → r ≡ greatest_place vs
+last_place vs r s = sym (supports_are.one (pos 1, pos 0) vs r s) ∙ support_east vs
