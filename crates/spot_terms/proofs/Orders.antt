@@ -1,0 +1,216 @@
+-- Orders, signs, sums and products of whole numbers: what many proofs need between two steps.
+use Rattle.std.proofs.Common.{◌≡◌, ℕ, zero, suc, ◌+◌, ◌*◌, ◌≤◌, ◌<◌, ◌⊎◌, inl, inr, arith, refl, List, [], ◌∷◌}
+use Rattle.std.proofs.lemmas.Int.{ints}
+use lib.IntN.{ℤ, pos, negsuc, ◌+ℤ◌, ◌-ℤ◌, ◌*ℤ◌}
+use lib.Signed.{◌≤ℤ◌, ◌<ℤ◌}
+use Rattle.spot_terms.proofs.Ring.{ring, var, num, ◌⊖◌, ◌⊗◌}
+
+-- ---- at most, below, equal
+
+pub reflexive : (a : ℤ) → a ≤ℤ a
+reflexive a = omega (arith, ints)
+
+pub irreflexive : (a : ℤ) → a <ℤ a → ⊥
+irreflexive a h = omega (arith, ints)
+
+pub antisymmetric : (a b : ℤ) → a ≤ℤ b → b ≤ℤ a → a ≡ b
+antisymmetric a b h k = omega (arith, ints)
+
+pub asymmetric : (a b : ℤ) → a <ℤ b → b <ℤ a → ⊥
+asymmetric a b h k = omega (arith, ints)
+
+pub at_most_trans : (a b c : ℤ) → a ≤ℤ b → b ≤ℤ c → a ≤ℤ c
+at_most_trans a b c h k = omega (arith, ints)
+
+pub below_trans : (a b c : ℤ) → a <ℤ b → b <ℤ c → a <ℤ c
+below_trans a b c h k = omega (arith, ints)
+
+pub at_most_below : (a b c : ℤ) → a ≤ℤ b → b <ℤ c → a <ℤ c
+at_most_below a b c h k = omega (arith, ints)
+
+pub below_at_most : (a b c : ℤ) → a <ℤ b → b ≤ℤ c → a <ℤ c
+below_at_most a b c h k = omega (arith, ints)
+
+pub weaken : (a b : ℤ) → a <ℤ b → a ≤ℤ b
+weaken a b h = omega (arith, ints)
+
+pub below_next : (a b : ℤ) → a <ℤ (b +ℤ pos 1) → a ≤ℤ b
+below_next a b h = omega (arith, ints)
+
+pub equal_at_most : (a b : ℤ) → a ≡ b → a ≤ℤ b
+equal_at_most a b e = omega (arith, ints)
+
+pub equal_at_least : (a b : ℤ) → a ≡ b → b ≤ℤ a
+equal_at_least a b e = omega (arith, ints)
+
+pub below_not_at_least : (a b : ℤ) → a <ℤ b → b ≤ℤ a → ⊥
+below_not_at_least a b h k = omega (arith, ints)
+
+pub at_most_not_above : (a b : ℤ) → a ≤ℤ b → b <ℤ a → ⊥
+at_most_not_above a b h k = omega (arith, ints)
+
+pub below_not_equal : (a b : ℤ) → a <ℤ b → a ≡ b → ⊥
+below_not_equal a b h e = omega (arith, ints)
+
+pub at_most_or_at_least : (a b : ℤ) → (a ≤ℤ b) ⊎ (b ≤ℤ a)
+at_most_or_at_least a b = grind (arith, ints)
+
+pub at_most_or_above : (a b : ℤ) → (a ≤ℤ b) ⊎ (b <ℤ a)
+at_most_or_above a b = grind (arith, ints)
+
+-- ---- signs
+
+pub zero_not_negative : (z : ℤ) → z ≡ pos 0 → pos 0 ≤ℤ z
+zero_not_negative z e = omega (arith, ints)
+
+pub zero_not_positive : (z : ℤ) → z ≡ pos 0 → pos 0 <ℤ z → ⊥
+zero_not_positive z e h = omega (arith, ints)
+
+pub positive_not_negative : (z : ℤ) → pos 0 <ℤ z → pos 0 ≤ℤ z
+positive_not_negative z h = omega (arith, ints)
+
+pub negative_clash : (z : ℤ) → z <ℤ pos 0 → pos 0 ≤ℤ z → ⊥
+negative_clash z h k = omega (arith, ints)
+
+pub is_zero : (z : ℤ) → (z ≡ pos 0) ⊎ (z ≡ pos 0 → ⊥)
+is_zero (pos zero) = inl refl
+is_zero (pos (suc n)) = inr (λ e. cc)
+is_zero (negsuc n) = inr (λ e. cc)
+
+-- a number that isn't negative is a natural number
+pub natural_of : (z : ℤ) → pos 0 ≤ℤ z → (n : ℕ) × (z ≡ pos n)
+natural_of (pos n) h = (n, refl)
+natural_of (negsuc n) h = absurd (omega (arith, ints))
+
+pub positive_natural : (n : ℕ) → 0 < n → pos 0 <ℤ pos n
+positive_natural n h = omega (arith, ints)
+
+pub pos_injective : (m n : ℕ) → pos m ≡ pos n → m ≡ n
+pos_injective m n e = cc
+
+-- ---- opposites, written as differences from 0
+
+pub opposite_not_negative : (z : ℤ) → z ≤ℤ pos 0 → pos 0 ≤ℤ (pos 0 -ℤ z)
+opposite_not_negative z h = omega (arith, ints)
+
+pub opposite_of_negative : (z : ℤ) → z <ℤ pos 0 → pos 0 ≤ℤ (pos 0 -ℤ z)
+opposite_of_negative z h = omega (arith, ints)
+
+pub opposite_positive : (z : ℤ) → z <ℤ pos 0 → pos 0 <ℤ (pos 0 -ℤ z)
+opposite_positive z h = omega (arith, ints)
+
+pub opposite_negative : (z : ℤ) → pos 0 <ℤ z → (pos 0 -ℤ z) ≤ℤ pos 0
+opposite_negative z h = omega (arith, ints)
+
+pub not_positive_of_opposite : (z : ℤ) → pos 0 ≤ℤ (pos 0 -ℤ z) → z ≤ℤ pos 0
+not_positive_of_opposite z h = omega (arith, ints)
+
+pub zero_of_opposite : (z : ℤ) → pos 0 -ℤ z ≡ pos 0 → z ≡ pos 0
+zero_of_opposite z e = omega (arith, ints)
+
+pub zero_by_signs : (z : ℤ) → pos 0 ≤ℤ z → pos 0 ≤ℤ (pos 0 -ℤ z) → z ≡ pos 0
+zero_by_signs z h k = omega (arith, ints)
+
+pub opposite_order : (a b : ℤ) → a ≤ℤ b → (pos 0 -ℤ b) ≤ℤ (pos 0 -ℤ a)
+opposite_order a b h = omega (arith, ints)
+
+-- ---- sums and differences
+
+pub sum_swap : (a b : ℤ) → a +ℤ b ≡ b +ℤ a
+sum_swap a b = omega (arith, ints)
+
+pub sum_not_negative : (a b : ℤ) → pos 0 ≤ℤ a → pos 0 ≤ℤ b → pos 0 ≤ℤ (a +ℤ b)
+sum_not_negative a b h k = omega (arith, ints)
+
+pub sum_positive : (a b : ℤ) → pos 0 <ℤ a → pos 0 ≤ℤ b → pos 0 <ℤ (a +ℤ b)
+sum_positive a b h k = omega (arith, ints)
+
+pub sum_of_positives : (a b : ℤ) → pos 0 <ℤ a → pos 0 <ℤ b → pos 0 <ℤ (a +ℤ b)
+sum_of_positives a b h k = omega (arith, ints)
+
+pub difference_not_negative : (a b : ℤ) → a ≤ℤ b → pos 0 ≤ℤ (b -ℤ a)
+difference_not_negative a b h = omega (arith, ints)
+
+pub difference_positive : (a b : ℤ) → a <ℤ b → pos 0 <ℤ (b -ℤ a)
+difference_positive a b h = omega (arith, ints)
+
+pub difference_of_below : (a b : ℤ) → a <ℤ b → pos 0 ≤ℤ (b -ℤ a)
+difference_of_below a b h = omega (arith, ints)
+
+pub difference_across : (a b c : ℤ) → a ≤ℤ b → b ≤ℤ c → pos 0 ≤ℤ (c -ℤ a)
+difference_across a b c h k = omega (arith, ints)
+
+pub at_most_of_difference : (a b : ℤ) → pos 0 ≤ℤ (b -ℤ a) → a ≤ℤ b
+at_most_of_difference a b h = omega (arith, ints)
+
+pub below_of_difference : (a b : ℤ) → pos 0 <ℤ (b -ℤ a) → a <ℤ b
+below_of_difference a b h = omega (arith, ints)
+
+pub difference_not_positive : (a b : ℤ) → a ≤ℤ b → (a -ℤ b) ≤ℤ pos 0
+difference_not_positive a b h = omega (arith, ints)
+
+pub equal_of_difference : (a b : ℤ) → pos 0 ≡ a -ℤ b → a ≡ b
+equal_of_difference a b e = omega (arith, ints)
+
+-- ---- products
+
+pub zero_times : (z : ℤ) → pos 0 *ℤ z ≡ pos 0
+zero_times z = omega (arith, ints)
+
+pub times_zero : (z : ℤ) → z *ℤ pos 0 ≡ pos 0
+times_zero z = omega (arith, ints)
+
+pub product_not_negative : (a b : ℤ) → pos 0 ≤ℤ a → pos 0 ≤ℤ b → pos 0 ≤ℤ (a *ℤ b)
+product_not_negative a b h k = grind (arith, ints)
+
+pub product_positive : (a b : ℤ) → pos 0 <ℤ a → pos 0 <ℤ b → pos 0 <ℤ (a *ℤ b)
+product_positive (pos (suc a)) (pos (suc b)) h k = omega (arith, ints)
+product_positive (pos zero) b h k = absurd (omega (arith, ints))
+product_positive (negsuc a) b h k = absurd (omega (arith, ints))
+product_positive (pos (suc a)) (pos zero) h k = absurd (omega (arith, ints))
+product_positive (pos (suc a)) (negsuc b) h k = absurd (omega (arith, ints))
+
+pub square_positive : (z : ℤ) → pos 0 <ℤ z → pos 0 <ℤ (z *ℤ z)
+square_positive z h = product_positive z z h h
+
+-- a factor of a product whose other factor is above 0
+pub factor_not_negative : (d z : ℤ) → pos 0 <ℤ d → pos 0 ≤ℤ (d *ℤ z) → pos 0 ≤ℤ z
+factor_not_negative d (pos n) h k = omega (arith, ints)
+factor_not_negative (pos (suc m)) (negsuc n) h k = absurd (omega (arith, ints))
+factor_not_negative (pos zero) (negsuc n) h k = absurd (omega (arith, ints))
+factor_not_negative (negsuc m) (negsuc n) h k = absurd (omega (arith, ints))
+
+pub factor_zero : (d z : ℤ) → pos 0 <ℤ d → d *ℤ z ≡ pos 0 → z ≡ pos 0
+factor_zero (pos zero) z h e = absurd (omega (arith, ints))
+factor_zero (negsuc m) z h e = absurd (omega (arith, ints))
+factor_zero (pos (suc m)) (pos zero) h e = refl
+factor_zero (pos (suc m)) (pos (suc n)) h e = absurd (omega (arith, ints, e))
+factor_zero (pos (suc m)) (negsuc n) h e = absurd (omega (arith, ints, e))
+
+-- an opposite as a factor
+pub opposite_times : (a b : ℤ) → (pos 0 -ℤ a) *ℤ b ≡ pos 0 -ℤ (a *ℤ b)
+opposite_times a b = ring (a ∷ b ∷ []) ((num (pos 0) ⊖ var 0) ⊗ var 1) (num (pos 0) ⊖ (var 0 ⊗ var 1)) refl
+
+pub times_opposite : (a b : ℤ) → a *ℤ (pos 0 -ℤ b) ≡ pos 0 -ℤ (a *ℤ b)
+times_opposite a b = ring (a ∷ b ∷ []) (var 0 ⊗ (num (pos 0) ⊖ var 1)) (num (pos 0) ⊖ (var 0 ⊗ var 1)) refl
+
+pub opposites_times : (a b : ℤ) → (pos 0 -ℤ a) *ℤ (pos 0 -ℤ b) ≡ a *ℤ b
+opposites_times a b = ring (a ∷ b ∷ []) ((num (pos 0) ⊖ var 0) ⊗ (num (pos 0) ⊖ var 1)) (var 0 ⊗ var 1) refl
+
+-- ---- natural numbers
+
+pub natural_antisymmetric : (m n : ℕ) → m ≤ n → n ≤ m → m ≡ n
+natural_antisymmetric m n h k = omega arith
+
+pub natural_weaken : (m n : ℕ) → m < n → m ≤ n
+natural_weaken m n h = omega arith
+
+pub below_or_at_least : (m n : ℕ) → (m < n) ⊎ (n ≤ m)
+below_or_at_least m n = grind arith
+
+-- a number below n + 1
+pub below_or_here : (k n : ℕ) → k < n + 1 → (k < n) ⊎ (k ≡ n)
+below_or_here k n h = grind arith
+
+pub below_one_more : (k n : ℕ) → k < n → k < n + 1
+below_one_more k n h = omega arith
