@@ -57,7 +57,7 @@ pub fn read_all<S: Source>(alloc: Global, source: &mut S) -> Result<Vec<u8>, Rea
 /// can.
 pub fn write_all<K: Sink>(sink: &mut K, bytes: &[u8]) -> Result<(), SinkFault>
     requires { K.takes sink.old (length bytes.now) }
-    ensures { WritesText K.written K.takes K.faults sink.old sink.new bytes.now result }
+    ensures { WritesText K.Sink sink.old sink.new bytes.now result }
 {
     let mut rest = bytes;
     while !rest.is_empty() {

@@ -14,7 +14,7 @@ use spot_terms::{End, Mode, MoverLine, Pt};
 /// At `SinkFault` the sink's count of faults rose in this call, and a front of the line was appended.
 pub fn write_head<K: Sink>(sink: &mut K, mode: Mode) -> Result<(), SinkFault>
     requires { K.takes sink.old (length (line_text (head_line mode))) }
-    ensures { WritesText K.written K.takes K.faults sink.old sink.new (line_text (head_line mode)) result }
+    ensures { WritesText K.Sink sink.old sink.new (line_text (head_line mode)) result }
 {
     let mut line = LineBuffer::new();
     put_head(&mut line, mode);
@@ -35,7 +35,7 @@ fn put_head(line: &mut LineBuffer, mode: Mode)
 /// At `SinkFault` the sink's count of faults rose in this call, and a front of the line was appended.
 pub fn write_time<K: Sink>(sink: &mut K, k: u32, steps: u32) -> Result<(), SinkFault>
     requires { K.takes sink.old (length (line_text (time_line k steps))) }
-    ensures { WritesText K.written K.takes K.faults sink.old sink.new (line_text (time_line k steps)) result }
+    ensures { WritesText K.Sink sink.old sink.new (line_text (time_line k steps)) result }
 {
     let mut line = LineBuffer::new();
     put_time(&mut line, k, steps);
@@ -58,7 +58,7 @@ fn put_time(line: &mut LineBuffer, k: u32, steps: u32)
 /// At `SinkFault` the sink's count of faults rose in this call, and a front of the line was appended.
 pub fn write_mover<K: Sink>(sink: &mut K, m: &MoverLine) -> Result<(), SinkFault>
     requires { K.takes sink.old (length (line_text (mover_line m.now))) }
-    ensures { WritesText K.written K.takes K.faults sink.old sink.new (line_text (mover_line m.now)) result }
+    ensures { WritesText K.Sink sink.old sink.new (line_text (mover_line m.now)) result }
 {
     let mut line = LineBuffer::new();
     put_mover(&mut line, m);
@@ -85,7 +85,7 @@ fn put_mover(line: &mut LineBuffer, m: &MoverLine)
 /// At `SinkFault` the sink's count of faults rose in this call, and a front of the line was appended.
 pub fn write_late<K: Sink>(sink: &mut K, id: u32, time: u32) -> Result<(), SinkFault>
     requires { K.takes sink.old (length (line_text (late_line id time))) }
-    ensures { WritesText K.written K.takes K.faults sink.old sink.new (line_text (late_line id time)) result }
+    ensures { WritesText K.Sink sink.old sink.new (line_text (late_line id time)) result }
 {
     let mut line = LineBuffer::new();
     put_late(&mut line, id, time);
@@ -106,7 +106,7 @@ fn put_late(line: &mut LineBuffer, id: u32, time: u32)
 /// At `SinkFault` the sink's count of faults rose in this call, and a front of the line was appended.
 pub fn write_fixed<K: Sink>(sink: &mut K, id: u32, n: &OctNumbers) -> Result<(), SinkFault>
     requires { K.takes sink.old (length (line_text (fixed_line id n.now.n))) }
-    ensures { WritesText K.written K.takes K.faults sink.old sink.new (line_text (fixed_line id n.now.n)) result }
+    ensures { WritesText K.Sink sink.old sink.new (line_text (fixed_line id n.now.n)) result }
 {
     let mut line = LineBuffer::new();
     put_fixed(&mut line, id, n);
@@ -134,7 +134,7 @@ pub fn write_lane<K: Sink>(
     p: &Poly,
 ) -> Result<(), SinkFault>
     requires { K.takes sink.old (length (line_text (lane_line id cell first p.now))) }
-    ensures { WritesText K.written K.takes K.faults sink.old sink.new (line_text (lane_line id cell first p.now)) result }
+    ensures { WritesText K.Sink sink.old sink.new (line_text (lane_line id cell first p.now)) result }
 {
     let mut line = LineBuffer::new();
     put_lane(&mut line, id, cell, first, p);
@@ -165,7 +165,7 @@ pub fn write_occ<K: Sink>(
     n: &OctNumbers,
 ) -> Result<(), SinkFault>
     requires { K.takes sink.old (length (line_text (occ_line id interval n.now.n))) }
-    ensures { WritesText K.written K.takes K.faults sink.old sink.new (line_text (occ_line id interval n.now.n)) result }
+    ensures { WritesText K.Sink sink.old sink.new (line_text (occ_line id interval n.now.n)) result }
 {
     let mut line = LineBuffer::new();
     put_occ(&mut line, id, interval, n);
@@ -187,7 +187,7 @@ fn put_occ(line: &mut LineBuffer, id: u32, interval: u32, reached: &OctNumbers)
 /// At `SinkFault` the sink's count of faults rose in this call, and a front of the line was appended.
 pub fn write_disc<K: Sink>(sink: &mut K, step: u32, id: u32, p: Pt, r: u64) -> Result<(), SinkFault>
     requires { K.takes sink.old (length (line_text (disc_line step id p r))) }
-    ensures { WritesText K.written K.takes K.faults sink.old sink.new (line_text (disc_line step id p r)) result }
+    ensures { WritesText K.Sink sink.old sink.new (line_text (disc_line step id p r)) result }
 {
     let mut line = LineBuffer::new();
     put_disc(&mut line, step, id, p, r);
@@ -210,7 +210,7 @@ fn put_disc(line: &mut LineBuffer, step: u32, id: u32, p: Pt, r: u64)
 /// At `SinkFault` the sink's count of faults rose in this call, and a front of the line was appended.
 pub fn write_count<K: Sink>(sink: &mut K, step: u32, sets: u64) -> Result<(), SinkFault>
     requires { K.takes sink.old (length (line_text (count_line step sets))) }
-    ensures { WritesText K.written K.takes K.faults sink.old sink.new (line_text (count_line step sets)) result }
+    ensures { WritesText K.Sink sink.old sink.new (line_text (count_line step sets)) result }
 {
     let mut line = LineBuffer::new();
     put_count(&mut line, step, sets);
@@ -231,7 +231,7 @@ fn put_count(line: &mut LineBuffer, step: u32, sets: u64)
 /// At `SinkFault` the sink's count of faults rose in this call, and a front of the line was appended.
 pub fn write_end<K: Sink>(sink: &mut K, e: End) -> Result<(), SinkFault>
     requires { K.takes sink.old (length (line_text (last_line e))) }
-    ensures { WritesText K.written K.takes K.faults sink.old sink.new (line_text (last_line e)) result }
+    ensures { WritesText K.Sink sink.old sink.new (line_text (last_line e)) result }
 {
     let mut line = LineBuffer::new();
     put_end(&mut line, e);
