@@ -1,2 +1,3 @@
--- What reading to the end means.
+-- What reading to the end and writing a text mean.
 pub mod Reads
+pub mod Writes

@@ -1,5 +1,8 @@
 //! A source and a sink over memory that never fail.
-ghost use Rattle.std.specs.Prelude.{◌≡◌, ℕ, ◌+◌, ◌≤◌, List, [], Option, Some, length, drop, IfOk, vec_len, vec_capacity};
+ghost use Rattle.std.specs.Prelude.{◌≡◌, ℕ, ◌+◌, ◌-◌, ◌≤◌, min, List, [], Option, Some, Ok, length, drop, IfOk, vec_len, vec_capacity};
+ghost use Rattle.std.specs.Io.{ReadsAtMost, WritesAtMost};
+ghost use Rattle.std.specs.Io.KnownBytes.{ReadConsumes, WriteAppends};
+ghost use Rattle.spot_terms.specs.Causes.{HasCause};
 ghost use Rattle.std.proofs.Common.{arith};
 
 use crate::{Sink, SinkFault, Source, SourceFault};
@@ -31,7 +34,13 @@ impl Source for NeverSource {
 
     ghost faults = { λ _. 0 };
 
-    fn read(&mut self, into: &mut [u8]) -> Result<usize, SourceFault> {
+    fn read(&mut self, into: &mut [u8]) -> Result<usize, SourceFault>
+        ensures bound { ReadsAtMost result into.new }
+        ensures bytes { ReadConsumes (Some (drop self.old.at self.old.bytes.items)) (Some (drop self.new.at self.new.bytes.items)) result into.new }
+        ensures cause { HasCause 0 0 result }
+        ensures count { result ≡ Ok (min (length into.old) (vec_len self.old.bytes - self.old.at)) }
+        ensures kept { self.new.bytes.items ≡ self.old.bytes.items }
+    {
         let count = into.len().min(self.bytes.len() - self.at);
         let end = self.at + count;
         into[..count].copy_from_slice(&self.bytes[self.at..end]);
@@ -70,7 +79,16 @@ impl Sink for NeverSink {
 
     ghost takes = { λ s n. length s.bytes.items + n ≤ s.room };
 
-    fn write(&mut self, piece: &[u8]) -> Result<usize, SinkFault> {
+    fn write(&mut self, piece: &[u8]) -> Result<usize, SinkFault>
+        requires { length self.old.bytes.items + length piece.now ≤ self.old.room }
+        ensures bound { WritesAtMost result piece.now }
+        ensures some { IfOk result (λ n. n ≡ 0 → length piece.now ≡ 0) }
+        ensures bytes { WriteAppends (Some self.old.bytes.items) (Some self.new.bytes.items) result piece.now }
+        ensures room { IfOk result (λ n. (more : ℕ) → length self.old.bytes.items + (n + more) ≤ self.old.room → length self.new.bytes.items + more ≤ self.new.room) }
+        ensures cause { HasCause 0 0 result }
+        ensures whole { result ≡ Ok (length piece.now) }
+        ensures kept { self.new.room ≡ self.old.room }
+    {
         if self.bytes.extend_from_slice(piece).is_err() {
             unreachable!();
         }

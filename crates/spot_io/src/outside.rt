@@ -65,7 +65,7 @@ impl<W: Write> Sink for StdSink<W> {
 
 impl<W: Write + Drop> StdSink<BufWriter<W>> {
     /// Sends on what is left in the buffer, and counts a failure as a fault: `SinkFault` comes only where the count rose in
-    /// this call.
+    /// this call, and else the count is as before.
     pub fn flush(&mut self) -> Result<(), SinkFault>
         ensures emptied { OnOk result (writer_buffer self.new.inner ≡ []) }
         ensures kept { Keeps (writer_contents W.contents self.old.inner) (writer_contents W.contents self.new.inner) }

@@ -17,12 +17,12 @@ pub trait Source {
     /// The bytes still to come, where the source tells them.
     ghost left: { Self → Option (List ℕ) };
 
-    /// How many calls have failed. The count never falls, and at its last value it stands for more.
+    /// How many calls have failed. A call that succeeds leaves the count as it is; at its last value it stands for more.
     ghost faults: { Self → ℕ };
 
     /// Moves some of the bytes that are left to the front of the slice, and says how many, at most the length of the
     /// slice. None come exactly at the end, or with no room. Answers `SourceFault` only where the count rose in this
-    /// call; then nothing has moved.
+    /// call; then nothing has moved. Else the count is as before.
     fn read(&mut self, into: &mut [u8]) -> Result<usize, SourceFault>
         ensures bound { ReadsAtMost result into.new }
         ensures bytes { ReadConsumes (left self.old) (left self.new) result into.new }
@@ -34,7 +34,7 @@ pub trait Sink {
     /// The bytes so far, where the sink tells them.
     ghost written: { Self → Option (List ℕ) };
 
-    /// How many calls have failed. The count never falls, and at its last value it stands for more.
+    /// How many calls have failed. A call that succeeds leaves the count as it is; at its last value it stands for more.
     ghost faults: { Self → ℕ };
 
     /// The sink can take so many bytes more.
@@ -42,7 +42,7 @@ pub trait Sink {
 
     /// Appends a front of the piece, and says how many bytes, at least one of a piece that isn't empty. The sink has to
     /// be able to take the whole piece. Answers `SinkFault` only where the count rose in this call; then nothing was
-    /// appended. What a sink can take falls by no more than what it took.
+    /// appended. Else the count is as before. What a sink can take falls by no more than what it took.
     fn write(&mut self, piece: &[u8]) -> Result<usize, SinkFault>
         requires { takes self.old (length piece.now) }
         ensures bound { WritesAtMost result piece.now }

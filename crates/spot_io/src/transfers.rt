@@ -1,8 +1,9 @@
 //! Reading to the end, and writing all of a piece.
-ghost use Rattle.std.specs.Prelude.{◌≡◌, ℕ, ◌+◌, ◌≤◌, length, IfOk, OnOk, OnErr, IsErrOf};
-ghost use Rattle.std.specs.Io.KnownBytes.{Appends, IsAtEnd};
-ghost use Rattle.spot_terms.specs.Causes.{HasCause, Rose, AppendsFront};
+ghost use Rattle.std.specs.Prelude.{◌≡◌, ℕ, ◌+◌, ◌≤◌, length, IfOk, OnOk, IsErrOf};
+ghost use Rattle.std.specs.Io.KnownBytes.{IsAtEnd};
+ghost use Rattle.spot_terms.specs.Causes.{Rose};
 ghost use Rattle.spot_io.specs.Reads.{ReadsAll};
+ghost use Rattle.spot_io.specs.Writes.{WritesText};
 
 use crate::{Sink, SinkFault, Source};
 use std::alloc::Global;
@@ -25,12 +26,13 @@ const MOST_BYTES: usize = 67_108_864;
 const PIECE_BYTES: usize = 16_384;
 
 /// Reads all bytes up to the end of the source, 67,108,864 at most. Answers `Fault` only where the source's count of
-/// faults rose in this call, and `TooLong` exactly where 67,108,865 bytes were taken; no more are ever taken.
+/// faults rose in this call, which it does at no other answer, and `TooLong` exactly where 67,108,865 bytes were taken; no more are ever taken.
 pub fn read_all<S: Source>(alloc: Global, source: &mut S) -> Result<Vec<u8>, ReadEnd>
     ensures short { IfOk result (λ bytes. length bytes.items ≤ 67108864) }
     ensures told { ReadsAll (S.left source.old) (S.left source.new) result }
     ensures end { OnOk result (IsAtEnd (S.left source.new)) }
     ensures later { S.faults source.old ≤ S.faults source.new }
+    ensures same { (IsErrOf result ReadEnd.Fault → ⊥) → S.faults source.new ≡ S.faults source.old }
     ensures fault { IsErrOf result ReadEnd.Fault → Rose (S.faults source.old) (S.faults source.new) }
 {
     let mut bytes = Vec::new(alloc);
@@ -51,13 +53,11 @@ pub fn read_all<S: Source>(alloc: Global, source: &mut S) -> Result<Vec<u8>, Rea
 }
 
 /// Appends all the bytes, which the sink has to be able to take. At a fault a front of them was appended, and the sink's
-/// count of faults has risen in this call. What the sink could take beside the bytes it still can.
+/// count of faults has risen in this call; else the count is as before. What the sink could take beside the bytes it still
+/// can.
 pub fn write_all<K: Sink>(sink: &mut K, bytes: &[u8]) -> Result<(), SinkFault>
     requires { K.takes sink.old (length bytes.now) }
-    ensures ok { OnOk result (Appends (K.written sink.old) (K.written sink.new) bytes.now) }
-    ensures err { OnErr result (AppendsFront (K.written sink.old) (K.written sink.new) bytes.now) }
-    ensures room { OnOk result ((more : ℕ) → K.takes sink.old (length bytes.now + more) → K.takes sink.new more) }
-    ensures cause { HasCause (K.faults sink.old) (K.faults sink.new) result }
+    ensures { WritesText K.Sink sink.old sink.new bytes.now result }
 {
     let mut rest = bytes;
     while !rest.is_empty() {

@@ -1,6 +1,6 @@
 -- The lines of obstacles, one by one.
 use Rattle.std.proofs.Common.{◌≡◌, ◌≢◌, ◌∙◌, ℕ, suc, ◌+◌, ◌==◌, ◌<◌, ◌≤◌, true, false, List, [], ◌∷◌, ◌++◌, drop, get_or, length, refl, sym, ap, arith}
-use Rattle.std.proofs.lemmas.List.{drop_more, drop_all}
+use Rattle.std.proofs.lemmas.List.{drop_all}
 use Rattle.std.proofs.lemmas.Bool.Decides.{nat_tests}
 use Rattle.spot_terms.specs.Report.{mover_line, late_line, line_text, report_text}
 use Rattle.spot_terms.specs.Participants.{starting}
@@ -8,16 +8,13 @@ use Rattle.spot_terms.specs.declared.lines.MoverLine.{MoverLine}
 use Rattle.spot_terms.specs.declared.scenario.Mover.{Mover}
 use Rattle.participants.specs.declared.participant.Participant.{Participant}
 use Rattle.spot_run.specs.Lines.{line_of, obstacle_lines}
-use Rattle.spot_run.proofs.Writing.{report_text-cons, report_text-nil}
+use Rattle.spot_run.proofs.Writing.{report_text-cons, report_text-nil, item}
 
 at_zero : (n : ℕ) → n ≡ 0 → (n == 0) ≡ true
 at_zero n h = grind (arith, nat_tests)
 
 not_at_zero : (n : ℕ) → n ≢ 0 → (n == 0) ≡ false
 not_at_zero n h = grind (arith, nat_tests)
-
-item : {X : Type 0} (xs : List X) (i : ℕ) (x : X) → i < length xs → x ≡ get_or xs i x → drop i xs ≡ x ∷ drop (i + 1) xs
-item xs i x h e = drop_more xs i x h ∙ ap (λ y. y ∷ drop (i + 1) xs) (sym e)
 
 mover_next : (m : Mover) (ms : List Mover) (p : Participant) (ps : List Participant) → m.time ≡ 0 → report_text (obstacle_lines (m ∷ ms) (p ∷ ps)) ≡ line_text (mover_line (line_of p)) ++ report_text (obstacle_lines ms ps)
 mover_next m ms p ps h = let t : (m.time == 0) ≡ true = at_zero m.time h in rw t (report_text-cons (mover_line (line_of p)) (obstacle_lines ms ps))

@@ -5,6 +5,7 @@ use Rattle.spot_terms.specs.declared.lines.Mode.TheVariants as mode
 use Rattle.spot_terms.specs.declared.lines.End.TheVariants as end
 use Rattle.spot_terms.specs.declared.lines.MoverLine.{MoverLine}
 use Rattle.spot_terms.specs.declared.scenario.Mover.{Mover}
+use Rattle.spot_terms.specs.declared.scenario.Scenario.{Scenario}
 use Rattle.convex_poly.specs.declared.oct_numbers.OctNumbers.{OctNumbers}
 use Rattle.lane_occupancy.specs.declared.polygons.LanePoly.{LanePoly}
 use Rattle.participants.specs.declared.participant.Participant.{Participant}
@@ -45,3 +46,11 @@ traffic_lines movers o = obstacle_lines movers o.participants ++ map octagon_lin
 -- the whole report of steps of k ticks
 abbrev pub prediction_lines : ℕ → ℕ → List Mover → Occupancies → List Line
 prediction_lines k steps movers o = head_line mode.Predict ∷ time_line k steps ∷ traffic_lines movers o ++ last_line end.Done ∷ []
+
+-- what stands before the static obstacles
+abbrev pub front_lines : Scenario → ℕ → List Participant → List Line
+front_lines s steps ps = head_line mode.Predict ∷ time_line s.step steps ∷ obstacle_lines s.movers ps
+
+-- what stands behind them
+abbrev pub back_lines : List Participant → List Line
+back_lines ps = flat_map lane_lines ps ++ flat_map occupancy_lines ps ++ last_line end.Done ∷ []

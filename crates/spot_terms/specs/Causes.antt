@@ -1,14 +1,15 @@
 -- When a call may answer a fault, and which bytes it moves.
-use Rattle.std.specs.Prelude.{◌≡◌, ℕ, ◌+◌, ◌-◌, ◌^◌, ◌≤◌, min, List, ◌++◌, length, drop, Option, Some, Result, OnErr}
+use Rattle.std.specs.Prelude.{◌≡◌, ℕ, ◌+◌, ◌-◌, ◌^◌, ◌≤◌, min, List, ◌++◌, length, drop, Option, Some, Result, OnOk, OnErr}
 use Rattle.std.specs.Io.KnownBytes.{Appends}
 
 -- the count has risen, or stands at its last value
 abbrev pub Rose : ℕ → ℕ → Type 0
 Rose before now = min (before + 1) (2 ^ 64 - 1) ≤ now
 
--- the count never falls, and has risen where the call answers a fault
+-- the count never falls, is as before where the call answers Ok, and has risen where it answers a fault
 pub record HasCause {T E : Type 0} (before now : ℕ) (result : Result T E) : Type 0 where
   pub later : before ≤ now
+  pub same : OnOk result (now ≡ before)
   pub failed : OnErr result (Rose before now)
 
 -- told bytes lose their first n, of which they have as many

@@ -1,11 +1,13 @@
 //! The lines of a report. Each call appends exactly its line to a sink: words of ASCII, one blank between two, and a line
 //! feed; a number is decimal, without leading zeros, with `-` where it is negative. The sink has to be able to take the
-//! whole line, and what it could take beside the line it still can. No call takes memory.
+//! whole line, and what it could take beside the line it still can. No call takes memory. Texts that aren't reports can be
+//! made in the same buffer.
 #![tactic(auto)]
 
 mod line_buffer;
 mod writers;
 
+pub use line_buffer::LineBuffer;
 pub use spot_terms::{End, Mode, MoverLine};
 pub use writers::{
     write_count, write_disc, write_end, write_fixed, write_head, write_lane, write_late,

@@ -1,7 +1,7 @@
-//! The writers of the lines: each makes its line in a buffer, by a function of its own, and writes it whole.
-ghost use Rattle.std.specs.Prelude.{◌≡◌, ℕ, ◌+◌, ◌≤◌, length, OnOk, OnErr};
-ghost use Rattle.std.specs.Io.KnownBytes.{Appends};
-ghost use Rattle.spot_terms.specs.Causes.{HasCause, AppendsFront};
+//! The writers of the lines: each makes its line in a buffer, by a function of its own, and writes it whole. Each answers
+//! `SinkFault` only where the sink's count of faults rose in the call, and then a front of the line was appended.
+ghost use Rattle.std.specs.Prelude.{◌≡◌, ◌≤◌, length};
+ghost use Rattle.spot_io.specs.Writes.{WritesText};
 ghost use Rattle.spot_terms.specs.Report.{line_text, mode_word, kind_word, head_line, time_line, mover_line, late_line, fixed_line, lane_line, occ_line, disc_line, count_line, last_line};
 
 use crate::line_buffer::LineBuffer;
@@ -11,16 +11,10 @@ use spot_terms::{End, Mode, MoverLine, Pt};
 
 /// The first line: which report it is.
 ///
-/// Answers `SinkFault` only where the sink's count of faults rose in this call; then a front of the line was appended.
+/// At `SinkFault` the sink's count of faults rose in this call, and a front of the line was appended.
 pub fn write_head<K: Sink>(sink: &mut K, mode: Mode) -> Result<(), SinkFault>
     requires { K.takes sink.old (length (line_text (head_line mode))) }
-    ensures ok { OnOk result (Appends (K.written sink.old) (K.written sink.new)
-        (line_text (head_line mode))) }
-    ensures err { OnErr result (AppendsFront (K.written sink.old) (K.written sink.new)
-        (line_text (head_line mode))) }
-    ensures room { OnOk result ((more : ℕ)
-        → K.takes sink.old (length (line_text (head_line mode)) + more) → K.takes sink.new more) }
-    ensures cause { HasCause (K.faults sink.old) (K.faults sink.new) result }
+    ensures { WritesText K.Sink sink.old sink.new (line_text (head_line mode)) result }
 {
     let mut line = LineBuffer::new();
     put_head(&mut line, mode);
@@ -38,16 +32,10 @@ fn put_head(line: &mut LineBuffer, mode: Mode)
 
 /// The line of times: the milliseconds of a step, and the number of steps.
 ///
-/// Answers `SinkFault` only where the sink's count of faults rose in this call; then a front of the line was appended.
+/// At `SinkFault` the sink's count of faults rose in this call, and a front of the line was appended.
 pub fn write_time<K: Sink>(sink: &mut K, k: u32, steps: u32) -> Result<(), SinkFault>
     requires { K.takes sink.old (length (line_text (time_line k steps))) }
-    ensures ok { OnOk result (Appends (K.written sink.old) (K.written sink.new)
-        (line_text (time_line k steps))) }
-    ensures err { OnErr result (AppendsFront (K.written sink.old) (K.written sink.new)
-        (line_text (time_line k steps))) }
-    ensures room { OnOk result ((more : ℕ)
-        → K.takes sink.old (length (line_text (time_line k steps)) + more) → K.takes sink.new more) }
-    ensures cause { HasCause (K.faults sink.old) (K.faults sink.new) result }
+    ensures { WritesText K.Sink sink.old sink.new (line_text (time_line k steps)) result }
 {
     let mut line = LineBuffer::new();
     put_time(&mut line, k, steps);
@@ -67,16 +55,10 @@ fn put_time(line: &mut LineBuffer, k: u32, steps: u32)
 /// m/s² and speed in mm/s; its start speed in mm/s; the radius of its body in µm; its start position in µm; and its box of
 /// start velocities in mm/s.
 ///
-/// Answers `SinkFault` only where the sink's count of faults rose in this call; then a front of the line was appended.
+/// At `SinkFault` the sink's count of faults rose in this call, and a front of the line was appended.
 pub fn write_mover<K: Sink>(sink: &mut K, m: &MoverLine) -> Result<(), SinkFault>
     requires { K.takes sink.old (length (line_text (mover_line m.now))) }
-    ensures ok { OnOk result (Appends (K.written sink.old) (K.written sink.new)
-        (line_text (mover_line m.now))) }
-    ensures err { OnErr result (AppendsFront (K.written sink.old) (K.written sink.new)
-        (line_text (mover_line m.now))) }
-    ensures room { OnOk result ((more : ℕ)
-        → K.takes sink.old (length (line_text (mover_line m.now)) + more) → K.takes sink.new more) }
-    ensures cause { HasCause (K.faults sink.old) (K.faults sink.new) result }
+    ensures { WritesText K.Sink sink.old sink.new (line_text (mover_line m.now)) result }
 {
     let mut line = LineBuffer::new();
     put_mover(&mut line, m);
@@ -100,16 +82,10 @@ fn put_mover(line: &mut LineBuffer, m: &MoverLine)
 
 /// The line of a participant that isn't predicted: its id, and its initial time, which isn't 0, in steps.
 ///
-/// Answers `SinkFault` only where the sink's count of faults rose in this call; then a front of the line was appended.
+/// At `SinkFault` the sink's count of faults rose in this call, and a front of the line was appended.
 pub fn write_late<K: Sink>(sink: &mut K, id: u32, time: u32) -> Result<(), SinkFault>
     requires { K.takes sink.old (length (line_text (late_line id time))) }
-    ensures ok { OnOk result (Appends (K.written sink.old) (K.written sink.new)
-        (line_text (late_line id time))) }
-    ensures err { OnErr result (AppendsFront (K.written sink.old) (K.written sink.new)
-        (line_text (late_line id time))) }
-    ensures room { OnOk result ((more : ℕ)
-        → K.takes sink.old (length (line_text (late_line id time)) + more) → K.takes sink.new more) }
-    ensures cause { HasCause (K.faults sink.old) (K.faults sink.new) result }
+    ensures { WritesText K.Sink sink.old sink.new (line_text (late_line id time)) result }
 {
     let mut line = LineBuffer::new();
     put_late(&mut line, id, time);
@@ -127,16 +103,10 @@ fn put_late(line: &mut LineBuffer, id: u32, time: u32)
 
 /// The line of a static obstacle: its id, and the eight numbers of the octagon that it occupies, in µm.
 ///
-/// Answers `SinkFault` only where the sink's count of faults rose in this call; then a front of the line was appended.
+/// At `SinkFault` the sink's count of faults rose in this call, and a front of the line was appended.
 pub fn write_fixed<K: Sink>(sink: &mut K, id: u32, n: &OctNumbers) -> Result<(), SinkFault>
     requires { K.takes sink.old (length (line_text (fixed_line id n.now.n))) }
-    ensures ok { OnOk result (Appends (K.written sink.old) (K.written sink.new)
-        (line_text (fixed_line id n.now.n))) }
-    ensures err { OnErr result (AppendsFront (K.written sink.old) (K.written sink.new)
-        (line_text (fixed_line id n.now.n))) }
-    ensures room { OnOk result ((more : ℕ)
-        → K.takes sink.old (length (line_text (fixed_line id n.now.n)) + more) → K.takes sink.new more) }
-    ensures cause { HasCause (K.faults sink.old) (K.faults sink.new) result }
+    ensures { WritesText K.Sink sink.old sink.new (line_text (fixed_line id n.now.n)) result }
 {
     let mut line = LineBuffer::new();
     put_fixed(&mut line, id, n);
@@ -155,7 +125,7 @@ fn put_fixed(line: &mut LineBuffer, id: u32, body: &OctNumbers)
 /// The line of a lane polygon: a participant's id, the number of the cell, the first interval that the cell is reached in,
 /// counted from 0, how many corners the polygon has, and each of them, in µm.
 ///
-/// Answers `SinkFault` only where the sink's count of faults rose in this call; then a front of the line was appended.
+/// At `SinkFault` the sink's count of faults rose in this call, and a front of the line was appended.
 pub fn write_lane<K: Sink>(
     sink: &mut K,
     id: u32,
@@ -164,13 +134,7 @@ pub fn write_lane<K: Sink>(
     p: &Poly,
 ) -> Result<(), SinkFault>
     requires { K.takes sink.old (length (line_text (lane_line id cell first p.now))) }
-    ensures ok { OnOk result (Appends (K.written sink.old) (K.written sink.new)
-        (line_text (lane_line id cell first p.now))) }
-    ensures err { OnErr result (AppendsFront (K.written sink.old) (K.written sink.new)
-        (line_text (lane_line id cell first p.now))) }
-    ensures room { OnOk result ((more : ℕ)
-        → K.takes sink.old (length (line_text (lane_line id cell first p.now)) + more) → K.takes sink.new more) }
-    ensures cause { HasCause (K.faults sink.old) (K.faults sink.new) result }
+    ensures { WritesText K.Sink sink.old sink.new (line_text (lane_line id cell first p.now)) result }
 {
     let mut line = LineBuffer::new();
     put_lane(&mut line, id, cell, first, p);
@@ -193,7 +157,7 @@ fn put_lane(line: &mut LineBuffer, id: u32, cell: u32, first: u32, p: &Poly)
 /// The line of an occupancy: a participant's id, the number of the interval, counted from 0, and the eight numbers of the
 /// octagon that holds it in that interval, in µm.
 ///
-/// Answers `SinkFault` only where the sink's count of faults rose in this call; then a front of the line was appended.
+/// At `SinkFault` the sink's count of faults rose in this call, and a front of the line was appended.
 pub fn write_occ<K: Sink>(
     sink: &mut K,
     id: u32,
@@ -201,13 +165,7 @@ pub fn write_occ<K: Sink>(
     n: &OctNumbers,
 ) -> Result<(), SinkFault>
     requires { K.takes sink.old (length (line_text (occ_line id interval n.now.n))) }
-    ensures ok { OnOk result (Appends (K.written sink.old) (K.written sink.new)
-        (line_text (occ_line id interval n.now.n))) }
-    ensures err { OnErr result (AppendsFront (K.written sink.old) (K.written sink.new)
-        (line_text (occ_line id interval n.now.n))) }
-    ensures room { OnOk result ((more : ℕ)
-        → K.takes sink.old (length (line_text (occ_line id interval n.now.n)) + more) → K.takes sink.new more) }
-    ensures cause { HasCause (K.faults sink.old) (K.faults sink.new) result }
+    ensures { WritesText K.Sink sink.old sink.new (line_text (occ_line id interval n.now.n)) result }
 {
     let mut line = LineBuffer::new();
     put_occ(&mut line, id, interval, n);
@@ -226,16 +184,10 @@ fn put_occ(line: &mut LineBuffer, id: u32, interval: u32, reached: &OctNumbers)
 
 /// The line of a recorded disc: its step, its obstacle's id, and its centre and its radius in µm.
 ///
-/// Answers `SinkFault` only where the sink's count of faults rose in this call; then a front of the line was appended.
+/// At `SinkFault` the sink's count of faults rose in this call, and a front of the line was appended.
 pub fn write_disc<K: Sink>(sink: &mut K, step: u32, id: u32, p: Pt, r: u64) -> Result<(), SinkFault>
     requires { K.takes sink.old (length (line_text (disc_line step id p r))) }
-    ensures ok { OnOk result (Appends (K.written sink.old) (K.written sink.new)
-        (line_text (disc_line step id p r))) }
-    ensures err { OnErr result (AppendsFront (K.written sink.old) (K.written sink.new)
-        (line_text (disc_line step id p r))) }
-    ensures room { OnOk result ((more : ℕ)
-        → K.takes sink.old (length (line_text (disc_line step id p r)) + more) → K.takes sink.new more) }
-    ensures cause { HasCause (K.faults sink.old) (K.faults sink.new) result }
+    ensures { WritesText K.Sink sink.old sink.new (line_text (disc_line step id p r)) result }
 {
     let mut line = LineBuffer::new();
     put_disc(&mut line, step, id, p, r);
@@ -255,16 +207,10 @@ fn put_disc(line: &mut LineBuffer, step: u32, id: u32, p: Pt, r: u64)
 
 /// The line of a step's count: the step, and how many base sets it has.
 ///
-/// Answers `SinkFault` only where the sink's count of faults rose in this call; then a front of the line was appended.
+/// At `SinkFault` the sink's count of faults rose in this call, and a front of the line was appended.
 pub fn write_count<K: Sink>(sink: &mut K, step: u32, sets: u64) -> Result<(), SinkFault>
     requires { K.takes sink.old (length (line_text (count_line step sets))) }
-    ensures ok { OnOk result (Appends (K.written sink.old) (K.written sink.new)
-        (line_text (count_line step sets))) }
-    ensures err { OnErr result (AppendsFront (K.written sink.old) (K.written sink.new)
-        (line_text (count_line step sets))) }
-    ensures room { OnOk result ((more : ℕ)
-        → K.takes sink.old (length (line_text (count_line step sets)) + more) → K.takes sink.new more) }
-    ensures cause { HasCause (K.faults sink.old) (K.faults sink.new) result }
+    ensures { WritesText K.Sink sink.old sink.new (line_text (count_line step sets)) result }
 {
     let mut line = LineBuffer::new();
     put_count(&mut line, step, sets);
@@ -282,16 +228,10 @@ fn put_count(line: &mut LineBuffer, step: u32, sets: u64)
 
 /// The last line: how the report ends.
 ///
-/// Answers `SinkFault` only where the sink's count of faults rose in this call; then a front of the line was appended.
+/// At `SinkFault` the sink's count of faults rose in this call, and a front of the line was appended.
 pub fn write_end<K: Sink>(sink: &mut K, e: End) -> Result<(), SinkFault>
     requires { K.takes sink.old (length (line_text (last_line e))) }
-    ensures ok { OnOk result (Appends (K.written sink.old) (K.written sink.new)
-        (line_text (last_line e))) }
-    ensures err { OnErr result (AppendsFront (K.written sink.old) (K.written sink.new)
-        (line_text (last_line e))) }
-    ensures room { OnOk result ((more : ℕ)
-        → K.takes sink.old (length (line_text (last_line e)) + more) → K.takes sink.new more) }
-    ensures cause { HasCause (K.faults sink.old) (K.faults sink.new) result }
+    ensures { WritesText K.Sink sink.old sink.new (line_text (last_line e)) result }
 {
     let mut line = LineBuffer::new();
     put_end(&mut line, e);

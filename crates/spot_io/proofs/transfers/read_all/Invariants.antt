@@ -1,4 +1,4 @@
-use Rattle.std.proofs.Common.{◌-◌, ◌≤◌, vec_len}
+use Rattle.std.proofs.Common.{◌≡◌, ◌-◌, ◌≤◌, vec_len}
 use Rattle.std.specs.Io.KnownBytes.{Consumes}
 use Rattle.spot_io.proofs.transfers.read_all.Given as goal
 
@@ -9,7 +9,7 @@ invariant-loop-piece g l =
     record {
       moved : Consumes (source.left l.fn.source) (source.left l.source) l.bytes.items;
       short : vec_len l.bytes ≤ 67108865;
-      later : source.faults l.fn.source ≤ source.faults l.source;
+      same : source.faults l.source ≡ source.faults l.fn.source;
     }
 
 abbrev pub decreases-loop-piece : goal.decreases-loop-piece

@@ -1,4 +1,4 @@
-use Rattle.std.proofs.Common.{◌+◌, length, arith}
+use Rattle.std.proofs.Common.{◌∙◌, ◌+◌, length, arith}
 use Rattle.spot_io.proofs.Moves.{goes_on, rest_fits}
 use Rattle.spot_io.proofs.transfers.write_all.Goals as goal
 
@@ -14,5 +14,5 @@ pub loop-rest-preserved : goal.loop-rest-preserved
 loop-rest-preserved g c = record {
   done = goes_on _ _ _ _ _ _ c.loop-rest.invariant.done c.in_ok-count.ensures.bytes;
   room = λ more h. c.in_ok-count.ensures.room _ (g.met.K.Sink.fewer c.loop-rest.sink _ _ (rest_fits c.loop-rest.rest.now c.in_ok-count.count more c.in_ok-count.ensures.bound) (c.loop-rest.invariant.room more h));
-  later = omega (arith, c.in_ok-count.ensures.cause.later);
+  same = c.in_ok-count.ensures.cause.same ∙ c.loop-rest.invariant.same;
 }

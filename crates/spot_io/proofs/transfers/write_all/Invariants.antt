@@ -1,4 +1,4 @@
-use Rattle.std.proofs.Common.{◌≡◌, ℕ, ◌+◌, ◌≤◌, List, ◌++◌, length}
+use Rattle.std.proofs.Common.{◌≡◌, ℕ, ◌+◌, List, ◌++◌, length}
 use Rattle.std.specs.Io.KnownBytes.{Appends}
 use Rattle.spot_io.proofs.transfers.write_all.Given as goal
 
@@ -9,7 +9,7 @@ invariant-loop-rest g l =
     record {
       done : (front : List ℕ) × (front ++ l.rest ≡ l.bytes) × Appends (sink.written l.fn.sink) (sink.written l.sink) front;
       room : (more : ℕ) → sink.takes l.fn.sink (length l.bytes + more) → sink.takes l.sink (length l.rest + more);
-      later : sink.faults l.fn.sink ≤ sink.faults l.sink;
+      same : sink.faults l.sink ≡ sink.faults l.fn.sink;
     }
 
 abbrev pub decreases-loop-rest : goal.decreases-loop-rest

@@ -1,35 +1,33 @@
-use Rattle.std.proofs.Common.{◌≡◌, ◌∙◌, ◌+◌, ◌<◌, ◌++◌, ℕ, List, drop, get_or, length, map, ap, sym}
+use Rattle.std.proofs.Common.{◌+◌, drop, map}
 use Rattle.spot_terms.specs.Report.{line_text, report_text}
-use Rattle.lane_occupancy.specs.declared.polygons.LanePoly.{LanePoly}
 use Rattle.spot_run.specs.Lines.{polygon_line}
-use Rattle.spot_run.proofs.Writing.{step, fault, fits, whole, on_err, next_of_map, none_left}
+use Rattle.spot_run.proofs.Writing.{next_line, no_line_left}
+use Rattle.spot_io.proofs.Writing.{nothing_yet, next_written, fault_next, takes_next, all_written}
 use Rattle.spot_run.proofs.report.write_polygons.Goals as goal
 
-next : (id : ℕ) (xs : List LanePoly) (i : ℕ) (x : LanePoly) → i < length xs → x ≡ get_or xs i x
-    → report_text (map (polygon_line id) (drop i xs)) ≡ line_text (polygon_line id x) ++ report_text (map (polygon_line id) (drop (i + 1) xs))
-next id xs i x h e = next_of_map (polygon_line id) xs i x h ∙ ap (λ (y : LanePoly). line_text (polygon_line id y) ++ report_text (map (polygon_line id) (drop (i + 1) xs))) (sym e)
+pub loop-p-init : goal.loop-p-init
+loop-p-init g c = nothing_yet _ _
 
 pub write_lane-requires : goal.write_lane-requires
 write_lane-requires g c =
     let xs = c.args.polygons.now in
     let i = c.loop-p.p-index in
-    let p = c.p-item.result in
-    fits (line_text (polygon_line c.args.id p)) (report_text (map (polygon_line c.args.id) (drop (i + 1) xs))) c.loop-p.invariant (next c.args.id xs i p c.loop-p-test.true c.p-item.is) (g.met.K.Sink.fewer c.loop-p.sink) c.requires
+    let line = polygon_line c.args.id in
+    takes_next (line_text (line c.p-item.result)) (report_text (map line (drop (i + 1) xs))) c.loop-p.invariant (next_line line xs i c.p-item.result c.loop-p-test.true c.p-item.is) (g.met.K.Sink.fewer c.loop-p.sink) c.requires
 
-pub returns-in_err-write_lane-clause-err : goal.returns-in_err-write_lane-clause-err
-returns-in_err-write_lane-clause-err g c =
+pub returns-in_err-write_lane : goal.returns-in_err-write_lane
+returns-in_err-write_lane g c =
     let xs = c.args.polygons.now in
     let i = c.loop-p.p-index in
-    let p = c.p-item.result in
-    on_err c.from_residual.result (fault (g.K.Sink.written c.write_lane.new.sink) (line_text (polygon_line c.args.id p)) (report_text (map (polygon_line c.args.id) (drop (i + 1) xs))) c.loop-p.invariant (next c.args.id xs i p c.loop-p-test.true c.p-item.is) c.in_err-write_lane.ensures.err)
+    let line = polygon_line c.args.id in
+    fault_next _ c.from_residual.result c.loop-p.invariant (next_line line xs i c.p-item.result c.loop-p-test.true c.p-item.is) c.in_err-write_lane.ensures c.from_residual.ensures.0
 
 pub loop-p-preserved : goal.loop-p-preserved
 loop-p-preserved g c =
     let xs = c.args.polygons.now in
     let i = c.loop-p.p-index in
-    let p = c.p-item.result in
-    step (line_text (polygon_line c.args.id p)) (report_text (map (polygon_line c.args.id) (drop (i + 1) xs))) c.loop-p.invariant (next c.args.id xs i p c.loop-p-test.true c.p-item.is)
-    c.in_ok-write_lane.ensures.ok c.in_ok-write_lane.ensures.room c.in_ok-write_lane.ensures.cause.later
+    let line = polygon_line c.args.id in
+    next_written c.loop-p.invariant (next_line line xs i c.p-item.result c.loop-p-test.true c.p-item.is) c.in_ok-write_lane.ensures
 
-pub returns-clause-ok : goal.returns-clause-ok
-returns-clause-ok g c = whole c.loop-p.invariant (none_left (polygon_line c.args.id) c.args.polygons.now c.loop-p.p-index c.loop-p-test.false)
+pub returns : goal.returns
+returns g c = all_written tt c.loop-p.invariant (no_line_left (polygon_line c.args.id) c.args.polygons.now c.loop-p.p-index c.loop-p-test.false)
