@@ -1,0 +1,4 @@
+-- The definitions, one module a concept.
+pub mod Children
+pub mod Growing
+pub mod Ways
