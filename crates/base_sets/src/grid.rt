@@ -95,7 +95,8 @@ impl OuterBox {
     pub fn cells(&self, grid: &Grid) -> u64
         requires reach { IsBox self.now }
         requires grid { IsGrid grid.now }
-        ensures { result ≡ cells_of grid.now.w grid.now.g (rect_of_box self.now) }
+        ensures value { result ≡ cells_of grid.now.w grid.now.g (rect_of_box self.now) }
+        ensures few { result ≤ 1_000_000_000_000_000_000 }
     {
         slots_met(grid.w, self.xlo, self.xhi) * slots_met(grid.g, self.ylo, self.yhi)
     }

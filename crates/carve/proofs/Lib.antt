@@ -1,0 +1,9 @@
+pub mod Sweeps
+pub mod Founds
+pub mod PieceLaws
+pub mod Gathers
+pub mod CutSteps
+mod Shared
+mod BoxSums
+pub mod RowCounts
+pub mod RowPlaces

@@ -1,0 +1,21 @@
+//! What occupied pieces take away from the rows of a grid, and what is left of base sets.
+#![tactic(auto)]
+
+ghost use Rattle.carve.specs.RowSums.{RowsAreBoxes};
+
+mod boxes;
+mod fake;
+mod occupied;
+mod rows;
+mod runs;
+mod sets;
+
+pub use boxes::row_boxes;
+pub use occupied::Occupied;
+pub use rows::{Runs, row_runs};
+pub use sets::{SetList, cut};
+
+/// The runs that the rows of a box can have are, all together, as many as its row boxes.
+pub fn rows_are_boxes()
+    ensures { RowsAreBoxes }
+{}

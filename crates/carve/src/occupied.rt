@@ -1,0 +1,52 @@
+//! What is occupied at a step: convex pieces.
+ghost use Rattle.std.specs.Prelude.{◌≡◌, ℕ, ℤ, ◌<◌, ◌≤◌, ◌≤ℤ◌};
+ghost use Rattle.spot_terms.specs.Frames.{at};
+ghost use Rattle.spot_terms.specs.Whole.{SizeAtMost, Within};
+ghost use Rattle.spot_terms.specs.declared.plain.Pt.{Pt};
+ghost use Rattle.convex_poly.specs.Runs.{IsRun};
+ghost use Rattle.carve.specs.Ranges.{IsRange};
+
+/// What is occupied: at each step up to a last one some pieces, each of which holds whole points of the plane.
+pub trait Occupied {
+    /// How many pieces a step has.
+    ghost count: { Self → ℕ → ℕ };
+
+    /// The point lies in the piece of the step.
+    ghost hits: { Self → ℕ → ℕ → Pt → Type 0 };
+
+    /// The least and the greatest y of the piece; it has none where the first is above the second.
+    ghost range: { Self → ℕ → ℕ → ℤ × ℤ };
+
+    /// The greatest step that may be asked for.
+    ghost last: { Self → ℕ };
+
+    /// The greatest size of a y that may be asked for.
+    ghost far: { Self → ℕ };
+
+    /// How many pieces the step has.
+    fn pieces(&self, step: u32) -> u32
+        requires { step ≤ last self.now }
+        ensures { result ≡ count self.now step };
+
+    /// The y range of the piece, and `None` exactly where it is empty.
+    fn span(&self, step: u32, piece: u32) -> Option<(i64, i64)>
+        requires step { step ≤ last self.now }
+        requires piece { piece < count self.now step }
+        ensures { IsRange (range self.now step piece) result };
+
+    /// The least and the greatest whole x with (x, `y0`) and (x, `y1`) both in the piece; all between are in it too.
+    /// `None` exactly where there is none.
+    fn run(&self, step: u32, piece: u32, y0: i64, y1: i64) -> Option<(i64, i64)>
+        requires step { step ≤ last self.now }
+        requires piece { piece < count self.now step }
+        requires ordered { y0 ≤ℤ y1 }
+        requires y0_near { SizeAtMost (far self.now) y0 }
+        requires y1_near { SizeAtMost (far self.now) y1 }
+        ensures { IsRun (λ x. hits self.now step piece (at x y0) × hits self.now step piece (at x y1)) result };
+
+    /// The whole points between two points of a piece of equal x lie in the piece.
+    ghost upright: { (o : Self) (step piece : ℕ) (x y0 y y1 : ℤ) → y0 ≤ℤ y → y ≤ℤ y1 → hits o step piece (at x y0) → hits o step piece (at x y1) → hits o step piece (at x y) };
+
+    /// The y of each point of a piece lies in its range.
+    ghost in_range: { (o : Self) (step piece : ℕ) (p : Pt) → hits o step piece p → Within (range o step piece).0 (range o step piece).1 p.y };
+}

@@ -1,0 +1,98 @@
+//! Lists of base sets whose room is taken once, and the cutting of a set to runs.
+
+ghost use Rattle.std.specs.Prelude.{◌≡◌, ◌+◌, ◌<◌, ◌≤◌, ◌++◌, ◌∷◌, [], length, IfOk};
+ghost use Rattle.std.specs.List.{AllByRecursion};
+ghost use Rattle.base_sets.specs.Values.{value_of};
+ghost use Rattle.carve.specs.Cuts.{IsCutBy, with_x};
+ghost use Rattle.carve.specs.Ranges.{AreRunPlaces};
+
+use base_sets::BaseSet;
+use convex_poly::Poly;
+use round_out::part_between;
+use std::alloc::{AllocError, Global};
+use std::marker::Model;
+
+/// A list of base sets, with room for so many.
+#[derive(Drop)]
+pub struct SetList {
+    items: Vec<BaseSet>,
+    room: u64,
+}
+
+impl Model for SetList {
+    ghost use Rattle.std.specs.Prelude.{◌≤◌, map, vec_capacity};
+    ghost use Rattle.base_sets.specs.Values.{value_of};
+    ghost use Rattle.carve.specs.Rooms.{SetRoom};
+
+    ghost Value = { SetRoom };
+
+    ghost view = { λ l. record { room = l.room; sets = map value_of l.items.items } };
+
+    ghost invariant = { λ l. l.room ≤ vec_capacity l.items };
+}
+
+impl SetList {
+    /// Room for so many sets, of which there are none yet.
+    pub fn open(alloc: Global, room: u64) -> Result<SetList, AllocError>
+        ensures { IfOk result (λ l. l ≡ record { room = room; sets = [] }) }
+    {
+        Ok(SetList {
+            items: Vec::with_capacity(alloc, room as usize)?,
+            room,
+        })
+    }
+
+    /// The sets, in order.
+    pub fn list(&self) -> &[BaseSet]
+        ensures { Rattle.std.specs.Prelude.map value_of result.now ≡ self.now.sets }
+    {
+        &self.items
+    }
+
+    /// Takes all sets out. The whole room is there again.
+    pub fn clear(&mut self)
+        ensures { self.new ≡ record { room = self.old.room; sets = [] } }
+    {
+        self.items.clear();
+    }
+
+    // Adds a set, for which there is room.
+    fn push(&mut self, set: BaseSet)
+        requires { length self.old.sets < self.old.room }
+        ensures { self.new ≡ record { room = self.old.room; sets = self.old.sets ++ value_of set ∷ [] } }
+    {
+        if self.items.push(set).is_err() {
+            unreachable!();
+        }
+    }
+}
+
+// The set with another polygon in the plane of x.
+fn set_with_x(b: &BaseSet, x: Poly) -> BaseSet
+    ensures { value_of result ≡ with_x (value_of b.now) x }
+{
+    BaseSet {
+        col: b.col,
+        row: b.row,
+        x,
+        y: b.y.copy(),
+    }
+}
+
+/// Adds what of the set is left in each of the runs, in their order, where something is. Each of them takes one of the room.
+///
+/// The set's x polygon has at most 18 corners, and there is room for as many further sets as there are runs, whose places
+/// are at most 4·10^13 in size. Each whole state of the set whose x lies in a run is held by one of them.
+pub fn cut(b: &BaseSet, runs: &[(i64, i64)], out: &mut SetList)
+    requires corners { length b.now.x ≤ 18 }
+    requires places { AreRunPlaces runs.now }
+    requires room { length out.old.sets + length runs.now ≤ out.old.room }
+    ensures sets { IsCutBy (value_of b.now) runs.now out.old.sets out.new.sets }
+    ensures room { out.new.room ≡ out.old.room }
+{
+    for run in runs {
+        if let Some(x) = part_between(&b.x, run.0, run.1) {
+            out.push(set_with_x(b, x));
+        }
+    }
+}
