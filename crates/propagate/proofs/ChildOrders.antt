@@ -72,29 +72,28 @@ less a k f =
     ∷ (number f 4 -ℤ pos (speed_growth a k)) ∷ (number f 5 -ℤ pos (place_growth a k)) ∷ (number f 6 -ℤ pos (double_growth a k)) ∷ (number f 7 -ℤ pos (place_growth a k)) ∷ []
 
 less_supports : (a k : ℕ) (vs : List Pt) (f : List ℤ) → AreChildNumbers a k vs f → AreFrameSupports (pos k) (map (shear k) vs) (less a k f)
-less_supports a k vs f s =
+less_supports a k vs f s = (
+  sheared_support k vs (pos 0) (pos 1) _ (number_is a k vs f 0 (omega arith) s),
+  (
+    sheared_support k vs (pos 1) (pos 0) _ (number_is a k vs f 1 (omega arith) s),
     (
-      sheared_support k vs (pos 0) (pos 1) _ (number_is a k vs f 0 (omega arith) s),
+      sheared_support k vs (pos 2) (neg_ℤ (pos k)) _ (number_is a k vs f 2 (omega arith) s),
       (
-        sheared_support k vs (pos 1) (pos 0) _ (number_is a k vs f 1 (omega arith) s),
+        sheared_support k vs (pos 1) (neg_ℤ (pos k)) _ (number_is a k vs f 3 (omega arith) s),
         (
-          sheared_support k vs (pos 2) (neg_ℤ (pos k)) _ (number_is a k vs f 2 (omega arith) s),
+          sheared_support k vs (pos 0) (negsuc 0) _ (number_is a k vs f 4 (omega arith) s),
           (
-            sheared_support k vs (pos 1) (neg_ℤ (pos k)) _ (number_is a k vs f 3 (omega arith) s),
+            sheared_support k vs (negsuc 0) (pos 0) _ (number_is a k vs f 5 (omega arith) s),
             (
-              sheared_support k vs (pos 0) (negsuc 0) _ (number_is a k vs f 4 (omega arith) s),
-              (
-                sheared_support k vs (negsuc 0) (pos 0) _ (number_is a k vs f 5 (omega arith) s),
-                (
-                  sheared_support k vs (negsuc 1) (pos k) _ (number_is a k vs f 6 (omega arith) s),
-                  (sheared_support k vs (negsuc 0) (pos k) _ (number_is a k vs f 7 (omega arith) s), tt),
-                ),
-              ),
+              sheared_support k vs (negsuc 1) (pos k) _ (number_is a k vs f 6 (omega arith) s),
+              (sheared_support k vs (negsuc 0) (pos k) _ (number_is a k vs f 7 (omega arith) s), tt),
             ),
           ),
         ),
       ),
-    )
+    ),
+  ),
+)
 
 pub child_numbers_in_order : (a k : ℕ) (vs : List Pt) (f : List ℤ) → 0 < a → 0 < k → AreChildNumbers a k vs f → IsFrameInOrder (pos k) f
 child_numbers_in_order a k vs f some ticks s =
