@@ -1,5 +1,5 @@
 -- Child numbers are in order, and in range.
-use Rattle.std.proofs.Common.{◌≡◌, ◌∙◌, ℕ, ◌+◌, ◌-◌, ◌*◌, ◌/◌, ◌<◌, ◌≤◌, arith, ap, sym, refl, subst, List, [], ◌∷◌, map, inl, inr}
+use Rattle.std.proofs.Common.{◌≡◌, ◌∙◌, ℕ, ◌+◌, ◌-◌, ◌*◌, ◌/◌, ◌<◌, ◌≤◌, arith, sym, refl, subst, List, [], ◌∷◌, map}
 use Rattle.std.specs.Prelude.{nat_abs, slice_index_or}
 use Rattle.std.specs.List.{AllByRecursion}
 use Rattle.std.proofs.lemmas.Int.{ints}
@@ -8,12 +8,10 @@ use lib.Signed.{◌≤ℤ◌}
 use Rattle.spot_terms.specs.declared.plain.Pt.{Pt}
 use Rattle.spot_terms.specs.Frames.{at, number, AreFrameSupports, IsFrameInOrder, IsFrameInRange}
 use Rattle.spot_terms.specs.Hull.{dot, IsSupport}
-use Rattle.spot_terms.specs.Lists.{Includes, Pairwise}
-use Rattle.spot_terms.specs.Reach.{Normal}
 use Rattle.spot_terms.proofs.ListLemmas.{all_included, includes_map, pairwise_at}
 use Rattle.spot_terms.proofs.Members.{in_map}
 use Rattle.spot_terms.proofs.Products.{products}
-use Rattle.spot_terms.proofs.Ring.{ring, var, num, ◌⊕◌, ◌⊖◌, ◌⊗◌}
+use Rattle.spot_terms.proofs.Ring.{ring, var, ◌⊕◌, ◌⊗◌}
 use Rattle.convex_poly.proofs.Wide.{product_within}
 use Rattle.round_out.proofs.FrameBounds.{supports_in_order, value2, value3, value6, value7}
 use Rattle.propagate.proofs.NumberLists.{speed_growth, place_growth, double_growth, normal_growths, IsChildNumber, AreChildNumbers}

@@ -1,12 +1,12 @@
 -- Child numbers as a relation: each without its growth is a support.
-use Rattle.std.proofs.Common.{◌≡◌, ◌∙◌, ℕ, ◌+◌, ◌*◌, ◌/◌, arith, refl, sym, subst, List, [], ◌∷◌}
+use Rattle.std.proofs.Common.{◌≡◌, ℕ, ◌+◌, ◌*◌, ◌/◌, arith, refl, sym, subst, List, [], ◌∷◌}
 use Rattle.std.specs.Prelude.{nat_abs}
 use Rattle.std.proofs.lemmas.Int.{ints}
 use lib.IntN.{ℤ, pos, neg_ℤ, ◌+ℤ◌, ◌-ℤ◌, ◌*ℤ◌}
 use Rattle.spot_terms.specs.declared.plain.Pt.{Pt}
 use Rattle.spot_terms.specs.ChildNumbers as numbers
 use Rattle.spot_terms.specs.ChildNumbers.{support, sheared}
-use Rattle.spot_terms.specs.Hull.{IsSupport, IsCornerList}
+use Rattle.spot_terms.specs.Hull.{IsSupport}
 use Rattle.spot_terms.specs.Lists.{Pairwise}
 use Rattle.spot_terms.specs.Reach.{Normal, minus_one}
 use Rattle.spot_terms.proofs.Supports.{supports_are}

@@ -1,4 +1,4 @@
-use Rattle.std.proofs.Common.{◌≤◌, arith, List}
+use Rattle.std.proofs.Common.{arith, List}
 use Rattle.std.specs.List.{AllByRecursion}
 use Rattle.spot_terms.specs.declared.plain.Pt.{Pt}
 use Rattle.spot_terms.specs.Lists.{Includes}
