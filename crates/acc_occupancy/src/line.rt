@@ -8,12 +8,12 @@ ghost use Rattle.acc_occupancy.specs.Lines as lines;
 ghost use Rattle.acc_occupancy.specs.Lines.{IsLine, IsLineInRange, IsRising, line_place, line_number, risen_place, bend_way, capped_way};
 
 use round_out::disc_number;
-use spot_terms::{AccStart, Pt, VBox};
+use spot_terms::{AccStart, LAST_TICK, MOST_STEPS, MOST_TICKS, Pt, VBox};
 
 /// What is kept of a start along a normal: the place at tick 0 in µm; the greatest speed at tick 0, by how much it
 /// can rise with each tick, and its cap from tick 1 on, in µm per tick; the rounding of a tick, doubled; and how far the
 /// body reaches from its centre, in µm.
-#[derive(Clone, Copy)]
+#[derive(Clone, Copy, Debug, PartialEq, Eq)]
 pub struct Line {
     place: i64,
     speed: i64,
@@ -47,8 +47,8 @@ impl Line {
     /// the interval's ends.
     pub fn number(&self, k: u32, i: u32) -> i64
         requires range { IsLineInRange self.now }
-        requires ticks { k ≤ 1000 }
-        requires interval { i < 100 }
+        requires ticks { k ≤ MOST_TICKS }
+        requires interval { i < MOST_STEPS }
         ensures { result ≡ line_number k i self.now }
     {
         let first = i * k;
@@ -61,7 +61,7 @@ impl Line {
     /// arithmetic row, one tick in which the speed meets the cap, and ticks at the cap.
     pub fn place_at(&self, tick: u32) -> i64
         requires range { IsLineInRange self.now }
-        requires tick { tick ≤ 100_000 }
+        requires tick { tick ≤ LAST_TICK }
         ensures value { result ≡ line_place self.now tick }
         ensures size { SizeAtMost 41_000_000_000_000 result }
     {
@@ -73,7 +73,7 @@ impl Line {
         }
     }
 
-    /// For how many ticks the speed rises freely.
+    // For how many ticks the speed rises freely.
     fn rising(&self) -> u32
         requires { IsLineInRange self.now }
         ensures { IsRising self.now result }
@@ -81,10 +81,10 @@ impl Line {
         (self.cap - self.speed).div_euclid(self.rise).max(0) as u32
     }
 
-    /// The place after some ticks in which the speed rises freely.
+    // The place after some ticks in which the speed rises freely.
     fn risen(&self, ticks: u32) -> i64
         requires range { IsLineInRange self.now }
-        requires ticks { ticks ≤ 100_000 }
+        requires ticks { ticks ≤ LAST_TICK }
         ensures value { result ≡ risen_place self.now ticks }
         ensures size { SizeAtMost 40_400_000_000_000 result }
     {
@@ -92,17 +92,17 @@ impl Line {
         self.place + ticks as i64 * steady + pairs(ticks) * self.rise
     }
 
-    /// The way of the tick in which the speed meets its cap.
+    // The way of the tick in which the speed meets its cap.
     fn bend(&self, rising: u32) -> i64
         requires range { IsLineInRange self.now }
-        requires rising { rising ≤ 100_000 }
+        requires rising { rising ≤ LAST_TICK }
         ensures value { result ≡ bend_way self.now rising }
         ensures size { SizeAtMost 10_000_000 result }
     {
         half(self.speed + rising as i64 * self.rise + self.cap + self.rounding)
     }
 
-    /// The way of a tick at the cap.
+    // The way of a tick at the cap.
     fn capped(&self) -> i64
         requires { IsLineInRange self.now }
         ensures value { result ≡ capped_way self.now }
@@ -112,7 +112,7 @@ impl Line {
     }
 }
 
-/// Half, rounded down.
+// Half, rounded down.
 fn half(whole: i64) -> i64
     requires { SizeAtMost 10_000_000 whole }
     ensures value { result ≡ lines.half whole }
@@ -121,9 +121,9 @@ fn half(whole: i64) -> i64
     whole.div_euclid(2)
 }
 
-/// 0 + 1 + .. + (ticks - 1)
+// 0 + 1 + .. + (ticks - 1)
 fn pairs(ticks: u32) -> i64
-    requires { ticks ≤ 100_000 }
+    requires { ticks ≤ LAST_TICK }
     ensures value { result ≡ pos (lines.pairs ticks) }
     ensures size { SizeAtMost 5_000_000_000 result }
 {
@@ -131,7 +131,7 @@ fn pairs(ticks: u32) -> i64
     (wide * wide.saturating_sub(1) / 2) as i64
 }
 
-/// normal · p
+// normal · p
 fn along_normal(normal: u32, p: Pt) -> i64
     requires normal { normal < 8 }
     requires x { SizeAtMost 20_000_000_000_000 p.x }
@@ -150,7 +150,7 @@ fn along_normal(normal: u32, p: Pt) -> i64
     }
 }
 
-/// The greatest value of normal · v over the velocities v of a box: that of the corner farthest along the normal.
+// The greatest value of normal · v over the velocities v of a box: that of the corner farthest along the normal.
 fn fastest(normal: u32, b: &VBox) -> i64
     requires normal { normal < 8 }
     requires range { IsBoxWithin 900_000 b.now }
@@ -165,7 +165,7 @@ fn fastest(normal: u32, b: &VBox) -> i64
     along_normal(normal, Pt { x, y })
 }
 
-/// 1 on the axes, 2 on the diagonals: what the two coordinates of a normal can gain in a tick by rounding, doubled.
+// 1 on the axes, 2 on the diagonals: what the two coordinates of a normal can gain in a tick by rounding, doubled.
 fn rounding_of(normal: u32) -> i64
     requires { normal < 8 }
     ensures { result ≡ pos (rounding (normal_at normal)) }

@@ -12,7 +12,7 @@ ghost use Rattle.acc_occupancy.specs.Runs.{HoldsBodies};
 
 use crate::line::Line;
 use convex_poly::OctNumbers;
-use spot_terms::AccStart;
+use spot_terms::{AccStart, LAST_TICK, MOST_STEPS, MOST_TICKS};
 
 /// How far the motions of a start reach at most along a normal at a tick, in µm: from the start, with each tick half of
 /// the greatest speeds at its two ends and of the rounding, rounded down. No motion is beyond it.
@@ -21,7 +21,7 @@ use spot_terms::AccStart;
 pub fn reach_number(s: &AccStart, normal: u32, tick: u32) -> i64
     requires start { IsStart s.now }
     requires normal { normal < 8 }
-    requires tick { tick ≤ 100_000 }
+    requires tick { tick ≤ LAST_TICK }
     ensures value { result ≡ reach.reach_number s.now (normal_at normal) tick }
     ensures motions { (states : List State) (st : State) → IsPlanarMotion s.now.p s.now.b s.now.a s.now.v states → slice_get states tick ≡ Some st → along (normal_at normal) st.p ≤ℤ result }
 {
@@ -34,8 +34,8 @@ pub fn reach_number(s: &AccStart, normal: u32, tick: u32) -> i64
 /// `k` is at most 1000, and `i` below 100.
 pub fn interval_numbers(s: &AccStart, k: u32, i: u32) -> OctNumbers
     requires start { IsStart s.now }
-    requires ticks { k ≤ 1000 }
-    requires interval { i < 100 }
+    requires ticks { k ≤ MOST_TICKS }
+    requires interval { i < MOST_STEPS }
     ensures value { result.n ≡ reach.interval_numbers s.now k i }
     ensures bodies { HoldsBodies s.now k i result.n }
     ensures small { AllByRecursion (SizeAtMost 100_000_000_000_000) result.n }
@@ -64,8 +64,8 @@ pub fn lines_of(s: &AccStart) -> [Line; 8]
 /// The octagon of an interval, from the eight lines of a start.
 pub fn octagon(lines: &[Line; 8], k: u32, i: u32) -> OctNumbers
     requires range { AreLinesInRange lines.now }
-    requires ticks { k ≤ 1000 }
-    requires interval { i < 100 }
+    requires ticks { k ≤ MOST_TICKS }
+    requires interval { i < MOST_STEPS }
     ensures { result.n ≡ map (line_number k i) lines.now }
 {
     let mut n = [0; 8];

@@ -10,7 +10,7 @@ ghost use Rattle.acc_occupancy.specs.Runs.{Run, HoldsBodies};
 use crate::line::Line;
 use crate::reach::{lines_of, octagon};
 use convex_poly::OctNumbers;
-use spot_terms::AccStart;
+use spot_terms::{AccStart, MOST_STEPS, MOST_TICKS};
 use std::marker::Model;
 
 /// The octagons of a start, interval by interval. Contracts see the start, the ticks of an interval, and the interval
@@ -27,6 +27,7 @@ pub struct AccRun {
 impl Model for AccRun {
     ghost use Rattle.std.specs.Prelude.{◌≤◌};
     ghost use Rattle.spot_terms.specs.Ranges.{IsStart};
+    ghost use Rattle.spot_terms.specs.declared.limits.TheConstants.{MOST_STEPS, MOST_TICKS};
     ghost use Rattle.acc_occupancy.specs.Lines.{AreLines, AreLinesInRange};
     ghost use Rattle.acc_occupancy.specs.Runs.{Run};
 
@@ -34,14 +35,14 @@ impl Model for AccRun {
 
     ghost view = { λ r. record { start = r.start; ticks = r.ticks; interval = r.interval } };
 
-    ghost invariant = { λ r. IsStart r.start × (r.ticks ≤ 1000) × (r.interval ≤ 100) × AreLines r.start r.lines × AreLinesInRange r.lines };
+    ghost invariant = { λ r. IsStart r.start × (r.ticks ≤ MOST_TICKS) × (r.interval ≤ MOST_STEPS) × AreLines r.start r.lines × AreLinesInRange r.lines };
 }
 
 impl AccRun {
     /// Stands before interval 0, of `k` ticks, at most 1000.
     pub fn open(s: &AccStart, k: u32) -> AccRun
         requires start { IsStart s.now }
-        requires ticks { k ≤ 1000 }
+        requires ticks { k ≤ MOST_TICKS }
         ensures { result ≡ record { start = s.now; ticks = k; interval = 0 } }
     {
         AccRun {
@@ -54,7 +55,7 @@ impl AccRun {
 
     /// The octagon of the next interval. There are 100.
     pub fn next(&mut self) -> OctNumbers
-        requires { self.old.interval < 100 }
+        requires { self.old.interval < MOST_STEPS }
         ensures value { result.n ≡ reach.interval_numbers self.old.start self.old.ticks self.old.interval }
         ensures bodies { HoldsBodies self.old.start self.old.ticks self.old.interval result.n }
         ensures small { AllByRecursion (SizeAtMost 100_000_000_000_000) result.n }

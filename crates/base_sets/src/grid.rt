@@ -102,8 +102,10 @@ impl OuterBox {
     }
 }
 
-/// How many slots of this width meet the places from `lo` to `hi`.
-fn slots_met(width: i64, lo: i64, hi: i64) -> u64
+/// How many slots of this width, columns or rows, meet the places from `lo` to `hi`, in µm.
+///
+/// The width is from 100,000 to 10^8. The places are at most 4·10^13 in size, and `lo` is at most `hi`.
+pub fn slots_met(width: i64, lo: i64, hi: i64) -> u64
     requires width { Within (pos 100_000) (pos 100_000_000) width }
     requires order { lo ≤ℤ hi }
     requires low { SizeAtMost 40_000_000_000_000 lo }

@@ -6,7 +6,7 @@ mod grid;
 mod sets;
 
 pub use ego::{EgoBounds, EgoStart};
-pub use grid::{Grid, OuterBox, outer_box};
+pub use grid::{Grid, OuterBox, outer_box, slots_met};
 pub use sets::BaseSet;
 
 #[cfg(test)]

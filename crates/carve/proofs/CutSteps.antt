@@ -45,10 +45,14 @@ cut_some b runs longer run old new more x h part keeps e f = record {
     either : (r : ℤ × ℤ) (s : State) → HoldsState b s → Within r.0 r.1 s.p.x → Includes runs r ⊎ Includes (run ∷ []) r → IsHeldBy (h.cuts ++ with_x b x ∷ []) s
     either r s k w (inl i) = let (d, j, m) = h.keeps r s i k w in (d, includes_front h.cuts (with_x b x ∷ []) d j, m)
     either r s k w (inr (inr i)) = absurd i
-    either r s k w (inr (inl i)) = (with_x b x, includes_back h.cuts (with_x b x ∷ []) (with_x b x) (inl refl), record {
-      x = keeps (at s.p.x s.v.x) k.x (on_sides run.0 run.1 (at s.p.x s.v.x) (subst (λ (z : ℤ × ℤ). Within z.0 z.1 s.p.x) i w));
-      y = k.y;
-    })
+    either r s k w (inr (inl i)) = (
+      with_x b x,
+      includes_back h.cuts (with_x b x ∷ []) (with_x b x) (inl refl),
+      record {
+        x = keeps (at s.p.x s.v.x) k.x (on_sides run.0 run.1 (at s.p.x s.v.x) (subst (λ (z : ℤ × ℤ). Within z.0 z.1 s.p.x) i w));
+        y = k.y;
+      },
+    )
 
 -- a run in which nothing is left
 pub cut_none : (b : SetValue) (runs longer : List (ℤ × ℤ)) (run : ℤ × ℤ) (old new more : List SetValue) → IsCutBy b runs old new → IsPart (places run.0 run.1) b.x None

@@ -147,14 +147,13 @@ module _ (spans : List Span) (w first end : ℤ) (wide : pos 0 <ℤ w) (are : Ar
       free x k t = elim (by_below t.j i) [
         | inl below ↦ (let e = h.passed t.j below before in let l = t.last in let m = k.low in omega (arith, ints))
         | inr (inl same) ↦ (let f : (span_at spans i).first ≤ℤ x = subst (λ (j : ℕ). (span_at spans j).first ≤ℤ x) same t.first in
-          let b = ends.before_span (omega (arith, t.listed)) in let m = k.high in omega (arith, ints))
+            let b = ends.before_span (omega (arith, t.listed)) in let m = k.high in omega (arith, ints))
         | inr (inr above) ↦ (let f = are.sorted i t.j above t.listed in let g = t.first in
-          let b = ends.before_span (omega (arith, t.listed)) in let m = k.high in omega (arith, ints))
+            let b = ends.before_span (omega (arith, t.listed)) in let m = k.high in omega (arith, ints))
       ]
 
       not_taken : IsTaken spans at → ⊥
       not_taken t = free at (record { low = omega (arith, ints); high = omega (arith, ints, less) }) t
-
 
       begins : MayBegin (IsTaken spans) w at
       begins = elim h.begins [ inl t ↦ absurd (not_taken t) | inr b ↦ b ]
@@ -169,8 +168,14 @@ module _ (spans : List Span) (w first end : ℤ) (wide : pos 0 <ℤ w) (are : Ar
   pub found_all : (at last : ℤ) (i : ℕ) (runs : List (ℤ × ℤ)) → end ≤ℤ at → end ≡ slot_low w (last +ℤ pos 1) → AreFoundBefore spans w first end at i runs → AreFreeRuns (IsTaken spans) w first last runs
   found_all at last i runs past is h = record {
     ordered = h.runs_are.ordered;
-    each = λ run k. let (col, f, a, b) = h.runs_are.each run k in record { col = col; among = record { low = (let k : first <ℤ (col +ℤ pos 1) = below_factor first (col +ℤ pos 1) w wide (let e = low_next w col in let g = f.some in let l = f.high in omega (arith, ints)) in omega (arith, ints));
-      high = (let k : col <ℤ (last +ℤ pos 1) = below_factor col (last +ℤ pos 1) w wide (let g = f.some in let l = f.low in let m = h.within in omega (arith, ints)) in omega (arith, ints)) }; free_run = f };
+    each = λ run k. let (col, f, a, b) = h.runs_are.each run k in record {
+      col = col;
+      among = record {
+        low = (let k : first <ℤ (col +ℤ pos 1) = below_factor first (col +ℤ pos 1) w wide (let e = low_next w col in let g = f.some in let l = f.high in omega (arith, ints)) in omega (arith, ints));
+        high = (let k : col <ℤ (last +ℤ pos 1) = below_factor col (last +ℤ pos 1) w wide (let g = f.some in let l = f.low in let m = h.within in omega (arith, ints)) in omega (arith, ints));
+      };
+      free_run = f;
+    };
     all = λ col lo hi k f. h.runs_are.all col lo hi f
         (let l = low_le w first col wide k.low in let m = f.low in omega (arith, ints))
         (let l : slot_low w (col +ℤ pos 1) ≤ℤ slot_low w (last +ℤ pos 1) = low_le w (col +ℤ pos 1) (last +ℤ pos 1) wide (let m = k.high in omega (arith, ints)) in let e = low_next w col in let a = f.some in let b = f.high in omega (arith, ints));

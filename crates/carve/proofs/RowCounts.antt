@@ -128,9 +128,9 @@ piece_rows : (g ylo yhi : ℤ) (s : ℤ × ℤ) (n : ℕ) → pos 0 <ℤ g → y
     → sum_rows (λ r. slots_shared g s (slot_low g r, slot_high g r)) (slot g ylo) n ≡ slots_shared g s (ylo, yhi)
 piece_rows g ylo yhi s n wide order e = by_lt_z s.1 s.0
     (λ none. sum_alike (λ r. slots_shared g s (slot_low g r, slot_high g r)) (λ r. 0) (slot g ylo) n (λ r. not_shared g s (slot_low g r, slot_high g r) none)
-        ∙ (sum_zero (slot g ylo) n ∙ sym (not_shared g s (ylo, yhi) none)))
+    ∙ (sum_zero (slot g ylo) n ∙ sym (not_shared g s (ylo, yhi) none)))
     (λ some. sum_alike (λ r. slots_shared g s (slot_low g r, slot_high g r)) (λ r. count_between (int_max (slot g s.0) r) (int_min (slot g s.1) r)) (slot g ylo) n (λ r. row_shared g s r wide some)
-        ∙ (rows_counted (slot g s.0) (slot g s.1) (slot g ylo) (slot g yhi) n e ∙ sym (shared g s (ylo, yhi) some order)))
+    ∙ (rows_counted (slot g s.0) (slot g s.1) (slot g ylo) (slot g yhi) n e ∙ sym (shared g s (ylo, yhi) some order)))
 
 pub slots_rise : (g a b : ℤ) → pos 0 <ℤ g → a ≤ℤ b → slot g a ≤ℤ slot g b
 slots_rise g a b wide h =
@@ -156,7 +156,7 @@ rows_are_boxes w g o count range wide order =
     let cells = sum_same (slots_met w o.xlo o.xhi) (slot g o.ylo) n in
     let turned = swapped_sums (λ p r. slots_shared g (range p) (slot_low g r, slot_high g r)) (numbers_below count) (slot g o.ylo) n in
     let pieces = sum_by_alike (λ p. sum_rows (λ r. slots_shared g (range p) (slot_low g r, slot_high g r)) (slot g o.ylo) n) (λ p. slots_shared g (range p) (o.ylo, o.yhi)) (numbers_below count)
-        (λ p. piece_rows g o.ylo o.yhi (range p) n wide order last) in
+    (λ p. piece_rows g o.ylo o.yhi (range p) n wide order last) in
     omega (arith, split, cells, turned, pieces)
 
 -- a piece whose range holds both ends meets a row at least

@@ -59,7 +59,9 @@ columns_counted first last h = from_whole (last -ℤ first +ℤ pos 1) refl
 
 same_run : (A B : ℤ → Type 0) (w col lo hi : ℤ) → ((x : ℤ) → A x ↔ B x) → IsFreeRun B w col lo hi → IsFreeRun A w col lo hi
 same_run A B w col lo hi e f = record {
-  low = f.low; some = f.some; high = f.high;
+  low = f.low;
+  some = f.some;
+  high = f.high;
   free = λ x k a. f.free x k ((e x).0 a);
   left = elim f.left [ inl h ↦ inl h | inr h ↦ inr ((e (lo -ℤ pos 1)).1 h) ];
   right = elim f.right [ inl h ↦ inl h | inr h ↦ inr ((e (hi +ℤ pos 1)).1 h) ];
@@ -93,10 +95,10 @@ pub row_covers : (count : ℕ) (hits : ℕ → Pt → Type 0) (g row low high : 
     → TakesBetween count hits low high spans → others ≡ spans → v ≡ w → a ≡ first → b ≡ last → CoverTheRest (IsTaken others) v a b runs → CoverTheRest (IsRemoved count hits g row) w first last runs
 row_covers count hits g row low high spans others w v first a last b runs p q exact d e f h covers x l m =
     let c : CoverTheRest (IsTaken spans) w first last runs =
-        subst (λ (z : ℤ). CoverTheRest (IsTaken spans) w first z runs) h
-        (subst (λ (z : ℤ). CoverTheRest (IsTaken spans) w z b runs) f
-        (subst (λ (z : ℤ). CoverTheRest (IsTaken spans) z a b runs) e
-        (subst (λ (s : List Span). CoverTheRest (IsTaken s) v a b runs) d covers))) in
+    subst (λ (z : ℤ). CoverTheRest (IsTaken spans) w first z runs) h
+    (subst (λ (z : ℤ). CoverTheRest (IsTaken spans) w z b runs) f
+    (subst (λ (z : ℤ). CoverTheRest (IsTaken spans) z a b runs) e
+    (subst (λ (s : List Span). CoverTheRest (IsTaken s) v a b runs) d covers))) in
     elim (c x l m) [
       | inl t ↦ inl ((taken_rows count hits g row low high spans p q exact x).1 t)
       | inr run ↦ inr run

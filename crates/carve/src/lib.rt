@@ -4,7 +4,6 @@
 ghost use Rattle.carve.specs.RowSums.{RowsAreBoxes};
 
 mod boxes;
-mod fake;
 mod occupied;
 mod rows;
 mod runs;
@@ -19,3 +18,6 @@ pub use sets::{SetList, cut};
 pub fn rows_are_boxes()
     ensures { RowsAreBoxes }
 {}
+
+#[cfg(test)]
+mod tests;

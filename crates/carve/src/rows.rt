@@ -61,14 +61,7 @@ impl Runs {
 ///
 /// There is room for a run of each column and one more for each piece of the step; the room stays. The runs are at most the
 /// columns of the box and the pieces whose range of y meets the row. Each x of the columns is removed or lies in a run.
-pub fn row_runs<O: Occupied>(
-    o: &O,
-    step: u32,
-    row: i64,
-    b: &OuterBox,
-    grid: &Grid,
-    runs: &mut Runs,
-)
+pub fn row_runs<O: Occupied>(o: &O, step: u32, row: i64, b: &OuterBox, grid: &Grid, runs: &mut Runs)
     requires step { step ≤ O.last o.now }
     requires reach { IsBox b.now }
     requires grid { IsGrid grid.now }
@@ -84,7 +77,13 @@ pub fn row_runs<O: Occupied>(
     let (low, high) = row_ends(row, grid.g);
     gather(o, step, low, high, grid.g, &mut runs.spans);
     runs.free.clear();
-    put_free(&mut runs.free, &runs.spans, grid.col(b.xlo), grid.col(b.xhi), grid.w);
+    put_free(
+        &mut runs.free,
+        &runs.spans,
+        grid.col(b.xlo),
+        grid.col(b.xhi),
+        grid.w,
+    );
 }
 
 // Lists what the pieces take away from the places between `low` and `high`, in order.

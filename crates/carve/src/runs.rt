@@ -36,7 +36,11 @@ fn end_of_run(spans: &[Span], i: usize, at: i64, end: i64, w: i64) -> i64
     ensures { IsEndOfRun spans.now i w at end result }
 {
     let border = border_after(at, w).min(end);
-    if i < spans.len() { spans[i].first.min(border) } else { border }
+    if i < spans.len() {
+        spans[i].first.min(border)
+    } else {
+        border
+    }
 }
 
 /// The place past a span, at most `end`, and at least `at`.

@@ -11,7 +11,8 @@ use Rattle.spot_terms.specs.Hull.{InHull}
 use Rattle.convex_poly.specs.Turns.{TurnsLeft}
 use Rattle.convex_poly.specs.Chains.{key, Rising, Toward, KeepsFront, IsChain}
 use Rattle.spot_terms.proofs.ListLemmas.{includes_front, includes_back}
-use Rattle.convex_poly.proofs.Places.{all_at, all_map, order, place_of}
+use Rattle.spot_terms.proofs.Orders.{below_or_at_least}
+use Rattle.convex_poly.proofs.Places.{all_at, all_map, place_of}
 use Rattle.std.proofs.lemmas.Grind.{take_at_read}
 use Rattle.convex_poly.proofs.Sides.{toward_flat, toward_included, both_sides}
 
@@ -44,7 +45,7 @@ chain_none kx ky = record {
 -- with the next point, the keys of the chain rise
 chain_next_rises : (kx ky : ℤ) (done chain : List Pt) (next : Pt) → IsChain kx ky done chain → Rising kx ky (done ++ next ∷ []) → Rising kx ky (chain ++ next ∷ [])
 chain_next_rises kx ky done chain next c r i j d ij jn =
-    elim (order j (length chain)) [
+    elim (below_or_at_least j (length chain)) [
       | inl low ↦ subst (λ z. key kx ky z <ℤ key kx ky (get_or (chain ++ next ∷ []) j d)) (sym (get_or-append chain (next ∷ []) d i (omega arith)))
           (subst (λ z. key kx ky (get_or chain i d) <ℤ key kx ky z) (sym (get_or-append chain (next ∷ []) d j low)) (c.rises i j d ij low))
       | inr high ↦ subst (λ z. key kx ky z <ℤ key kx ky (get_or (chain ++ next ∷ []) j d)) (sym (get_or-append chain (next ∷ []) d i (omega (arith, size))))
@@ -115,7 +116,7 @@ chain_step kx ky done chain new next c r front turns side =
 
     -- the first point stays, or is the only one
     first_at : (d : Pt) → get_or (take front.count chain ++ next ∷ []) 0 d ≡ get_or (done ++ next ∷ []) 0 d
-    first_at d = elim (order 0 (length done)) [
+    first_at d = elim (below_or_at_least 0 (length done)) [
       | inl old ↦ low 0 d (front.some (c.ends.some old)) ∙ get_or-append chain (next ∷ []) d 0 (c.ends.some old) ∙ c.ends.first d old ∙ sym (get_or-append done (next ∷ []) d 0 old)
       | inr none ↦ only (none_of done chain c.inside (omega arith)) (omega arith)
     ]
@@ -130,7 +131,7 @@ chain_step kx ky done chain new next c r front turns side =
 
     front_rises : Rising kx ky (chain ++ next ∷ []) → Rising kx ky (take front.count chain ++ next ∷ [])
     front_rises up i j d ij jn =
-        elim (order j front.count) [
+        elim (below_or_at_least j front.count) [
           | inl inner ↦ subst (λ z. key kx ky z <ℤ key kx ky (get_or (take front.count chain ++ next ∷ []) j d)) (sym (low i d (omega arith)))
               (subst (λ z. key kx ky (get_or (chain ++ next ∷ []) i d) <ℤ key kx ky z) (sym (low j d inner)) (up i j d ij (omega (arith, old_size, front.within))))
           | inr last ↦ subst (λ z. key kx ky z <ℤ key kx ky (get_or (take front.count chain ++ next ∷ []) j d)) (sym (low i d (omega (arith, new_size))))

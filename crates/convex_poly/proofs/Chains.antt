@@ -9,20 +9,10 @@ use Rattle.spot_terms.specs.declared.plain.Pt.{Pt}
 use Rattle.convex_poly.specs.Turns.{cross, TurnsLeft}
 use Rattle.convex_poly.specs.Chains.{key, Rising}
 use Rattle.spot_terms.proofs.Ring.{ring, Exp, var, num, ◌⊕◌, ◌⊖◌, ◌⊗◌}
-use Rattle.spot_terms.proofs.Mixes.{not_below_times}
+use Rattle.spot_terms.proofs.Orders.{below_trans, difference_not_negative, difference_positive, positive_not_negative, product_positive, sum_of_positives, weaken, zero_not_negative, product_not_negative, below_or_at_least}
 use Rattle.convex_poly.proofs.Crosses.{cross_exp, cross_turn, cross_first, cross_second}
-use Rattle.convex_poly.proofs.Places.{order}
 
 -- ---- turns along a chain
-pub positive_sum : (z w : ℤ) → pos 0 <ℤ z → pos 0 <ℤ w → pos 0 <ℤ (z +ℤ w)
-positive_sum z w h k = omega (arith, ints)
-
-pub positive_product : (z w : ℤ) → pos 0 <ℤ z → pos 0 <ℤ w → pos 0 <ℤ (z *ℤ w)
-positive_product (pos zero) w h k = absurd (omega (arith, ints))
-positive_product (negsuc n) w h k = absurd (omega (arith, ints))
-positive_product (pos (suc n)) (pos zero) h k = absurd (omega (arith, ints))
-positive_product (pos (suc n)) (negsuc m) h k = absurd (omega (arith, ints))
-positive_product (pos (suc n)) (pos (suc m)) h k = omega (arith, ints)
 
 pub positive_part : (z w : ℤ) → pos 0 <ℤ w → pos 0 <ℤ (z *ℤ w) → pos 0 <ℤ z
 positive_part (pos zero) w k h = absurd (omega (arith, ints))
@@ -38,20 +28,14 @@ slopes kx ky ax ay bx by cx cy ex ey =
     (cross_exp (var 2) (var 3) (var 4) (var 5) (var 8) (var 9) ⊗ (K (var 6) (var 7) ⊖ K (var 4) (var 5)))
     ((cross_exp (var 2) (var 3) (var 4) (var 5) (var 6) (var 7) ⊗ (K (var 8) (var 9) ⊖ K (var 4) (var 5))) ⊕ (cross_exp (var 4) (var 5) (var 6) (var 7) (var 8) (var 9) ⊗ (K (var 4) (var 5) ⊖ K (var 2) (var 3)))) refl
 
-pub gap_above : (z w : ℤ) → z <ℤ w → pos 0 <ℤ (w -ℤ z)
-gap_above z w h = omega (arith, ints)
-
 -- a, b, c and b, c, e turn left, so a, b, e do
 pub turns_on : (kx ky : ℤ) (a b c e : Pt) → key kx ky a <ℤ key kx ky b → key kx ky b <ℤ key kx ky c → key kx ky c <ℤ key kx ky e → pos 0 <ℤ cross a b c → pos 0 <ℤ cross b c e → pos 0 <ℤ cross a b e
 turns_on kx ky a b c e ab bc ce abc bce =
-    positive_part (cross a b e) (key kx ky c -ℤ key kx ky b) (gap_above _ _ bc)
+    positive_part (cross a b e) (key kx ky c -ℤ key kx ky b) (difference_positive _ _ bc)
     (subst (λ z. pos 0 <ℤ z) (sym (slopes kx ky a.x a.y b.x b.y c.x c.y e.x e.y))
-    (positive_sum _ _
-    (positive_product _ _ abc (gap_above _ _ (lt_lt _ _ _ bc ce)))
-    (positive_product _ _ bce (gap_above _ _ ab))))
-  where
-    lt_lt : (z w u : ℤ) → z <ℤ w → w <ℤ u → z <ℤ u
-    lt_lt z w u h k = omega (arith, ints)
+    (sum_of_positives _ _
+    (product_positive _ _ abc (difference_positive _ _ (below_trans _ _ _ bc ce)))
+    (product_positive _ _ bce (difference_positive _ _ ab))))
 
 -- and b, c, e with a before: a, c, e turn left
 slopes_end : (kx ky ax ay bx by cx cy ex ey : ℤ) → (((cx -ℤ ax) *ℤ (ey -ℤ ay)) -ℤ ((cy -ℤ ay) *ℤ (ex -ℤ ax))) *ℤ (((kx *ℤ cx) +ℤ (ky *ℤ cy)) -ℤ ((kx *ℤ bx) +ℤ (ky *ℤ by))) ≡ ((((bx -ℤ ax) *ℤ (cy -ℤ ay)) -ℤ ((by -ℤ ay) *ℤ (cx -ℤ ax))) *ℤ (((kx *ℤ ex) +ℤ (ky *ℤ ey)) -ℤ ((kx *ℤ cx) +ℤ (ky *ℤ cy)))) +ℤ ((((cx -ℤ bx) *ℤ (ey -ℤ by)) -ℤ ((cy -ℤ by) *ℤ (ex -ℤ bx))) *ℤ (((kx *ℤ cx) +ℤ (ky *ℤ cy)) -ℤ ((kx *ℤ ax) +ℤ (ky *ℤ ay))))
@@ -63,14 +47,11 @@ slopes_end kx ky ax ay bx by cx cy ex ey =
 
 pub turns_end : (kx ky : ℤ) (a b c e : Pt) → key kx ky a <ℤ key kx ky b → key kx ky b <ℤ key kx ky c → key kx ky c <ℤ key kx ky e → pos 0 <ℤ cross a b c → pos 0 <ℤ cross b c e → pos 0 <ℤ cross a c e
 turns_end kx ky a b c e ab bc ce abc bce =
-    positive_part (cross a c e) (key kx ky c -ℤ key kx ky b) (gap_above _ _ bc)
+    positive_part (cross a c e) (key kx ky c -ℤ key kx ky b) (difference_positive _ _ bc)
     (subst (λ z. pos 0 <ℤ z) (sym (slopes_end kx ky a.x a.y b.x b.y c.x c.y e.x e.y))
-    (positive_sum _ _
-    (positive_product _ _ abc (gap_above _ _ ce))
-    (positive_product _ _ bce (gap_above _ _ (lt_lt _ _ _ ab bc)))))
-  where
-    lt_lt : (z w u : ℤ) → z <ℤ w → w <ℤ u → z <ℤ u
-    lt_lt z w u h k = omega (arith, ints)
+    (sum_of_positives _ _
+    (product_positive _ _ abc (difference_positive _ _ ce))
+    (product_positive _ _ bce (difference_positive _ _ (below_trans _ _ _ ab bc)))))
 
 -- ---- a pair of each of two chains from the first point to the last
 mixed_turns : (kx ky ox oy zx zy ax ay bx by ux uy : ℤ) → (((bx -ℤ ax) *ℤ (uy -ℤ ay)) -ℤ ((by -ℤ ay) *ℤ (ux -ℤ ax))) *ℤ (((kx *ℤ zx) +ℤ (ky *ℤ zy)) -ℤ ((kx *ℤ ox) +ℤ (ky *ℤ oy)))
@@ -84,16 +65,13 @@ mixed_turns kx ky ox oy zx zy ax ay bx by ux uy =
 -- a and b follow each other on one side of the way from o to z, u is on the other side, so a, b, u turn left
 pub turns_across : (kx ky : ℤ) (o z a b u : Pt) → key kx ky o <ℤ key kx ky z → key kx ky a <ℤ key kx ky b → key kx ky o ≤ℤ key kx ky u → key kx ky u ≤ℤ key kx ky z → pos 0 ≤ℤ cross a b z → pos 0 ≤ℤ cross a b o → pos 0 <ℤ cross o z u → pos 0 <ℤ cross a b u
 turns_across kx ky o z a b u oz ab ou uz abz abo ozu =
-    positive_part (cross a b u) (key kx ky z -ℤ key kx ky o) (gap_above _ _ oz)
+    positive_part (cross a b u) (key kx ky z -ℤ key kx ky o) (difference_positive _ _ oz)
     (subst (λ t. pos 0 <ℤ t) (sym (mixed_turns kx ky o.x o.y z.x z.y a.x a.y b.x b.y u.x u.y))
     (last_above _ _ _
-    (not_below_times _ _ abz (gap_not_below _ _ ou))
-    (not_below_times _ _ abo (gap_not_below _ _ uz))
-    (positive_product _ _ ozu (gap_above _ _ ab))))
+    (product_not_negative _ _ abz (difference_not_negative _ _ ou))
+    (product_not_negative _ _ abo (difference_not_negative _ _ uz))
+    (product_positive _ _ ozu (difference_positive _ _ ab))))
   where
-    gap_not_below : (z w : ℤ) → z ≤ℤ w → pos 0 ≤ℤ (w -ℤ z)
-    gap_not_below z w h = omega (arith, ints)
-
     last_above : (z w t : ℤ) → pos 0 ≤ℤ z → pos 0 ≤ℤ w → pos 0 <ℤ t → pos 0 <ℤ ((z +ℤ w) +ℤ t)
     last_above z w t h k g = omega (arith, ints)
 
@@ -115,24 +93,18 @@ pub record Loop (kx ky : ℤ) (there back vs : List Pt) : Type 0 where
 lt_turn : (a b c : Pt) → pos 0 <ℤ cross a b c → pos 0 <ℤ cross b c a
 lt_turn a b c h = subst (λ z. pos 0 <ℤ z) (cross_turn a b c) h
 
-le_of : (z : ℤ) → pos 0 <ℤ z → pos 0 ≤ℤ z
-le_of z h = omega (arith, ints)
-
-le_zero : (z : ℤ) → z ≡ pos 0 → pos 0 ≤ℤ z
-le_zero z h = omega (arith, ints)
-
 module _ (kx ky : ℤ) (s : List Pt) (turns : TurnsLeft s) where
   -- a pair of a chain has the ends on the left
   pair_end : (i j e : ℕ) (d : Pt) → i < j → j ≤ e → e < length s → pos 0 ≤ℤ cross (get_or s i d) (get_or s j d) (get_or s e d)
   pair_end i j e d h l n =
-      elim (order j e) [
-        | inl less ↦ le_of _ (turns i j e d h less n)
-        | inr same ↦ subst (λ m. pos 0 ≤ℤ cross (get_or s i d) (get_or s j d) (get_or s m d)) (omega arith) (le_zero _ (cross_second (get_or s i d) (get_or s j d)))
+      elim (below_or_at_least j e) [
+        | inl less ↦ positive_not_negative _ (turns i j e d h less n)
+        | inr same ↦ subst (λ m. pos 0 ≤ℤ cross (get_or s i d) (get_or s j d) (get_or s m d)) (omega arith) (zero_not_negative _ (cross_second (get_or s i d) (get_or s j d)))
       ]
 
   pair_start : (i j : ℕ) (d : Pt) → i < j → j < length s → pos 0 ≤ℤ cross (get_or s i d) (get_or s j d) (get_or s 0 d)
-  pair_start zero j d h n = le_zero _ (cross_first (get_or s 0 d) (get_or s j d))
-  pair_start (suc i) j d h n = le_of _ (lt_turn (get_or s 0 d) (get_or s (suc i) d) (get_or s j d) (turns 0 (suc i) j d (omega arith) h n))
+  pair_start zero j d h n = zero_not_negative _ (cross_first (get_or s 0 d) (get_or s j d))
+  pair_start (suc i) j d h n = positive_not_negative _ (lt_turn (get_or s 0 d) (get_or s (suc i) d) (get_or s j d) (turns 0 (suc i) j d (omega arith) h n))
 
 pub neg_key : (kx ky : ℤ) (p q : Pt) → key (pos 0 -ℤ kx) (pos 0 -ℤ ky) p <ℤ key (pos 0 -ℤ kx) (pos 0 -ℤ ky) q → key kx ky q <ℤ key kx ky p
 neg_key kx ky p q h = turned _ _ (subst (λ z. z <ℤ (pos 0 -ℤ key kx ky q)) (minus p) (subst (λ z. key (pos 0 -ℤ kx) (pos 0 -ℤ ky) p <ℤ z) (minus q) h))
@@ -152,17 +124,14 @@ key_neg kx ky p q h = subst (λ z. z <ℤ key (pos 0 -ℤ kx) (pos 0 -ℤ ky) p)
     turned : (z w : ℤ) → z <ℤ w → (pos 0 -ℤ w) <ℤ (pos 0 -ℤ z)
     turned z w h = omega (arith, ints)
 
-lt_le : (z w : ℤ) → z <ℤ w → z ≤ℤ w
-lt_le z w h = omega (arith, ints)
-
 -- two of one chain, then an inner point of the other chain
 across : (kx ky : ℤ) (s r : List Pt) (d : Pt) → TurnsLeft s → TurnsLeft r → Rising kx ky s → Rising (pos 0 -ℤ kx) (pos 0 -ℤ ky) r → 2 ≤ length s → (n m : ℕ) → n + 1 ≡ length s → m + 1 ≡ length r → get_or s n d ≡ get_or r 0 d → get_or r m d ≡ get_or s 0 d → (i j k : ℕ) → i < j → j < length s → 0 < k → k < m → pos 0 <ℤ cross (get_or s i d) (get_or s j d) (get_or r k d)
 across kx ky s r d ts tr rs rr two n m hn hm top foot i j k ij jn k0 km =
     turns_across kx ky (get_or s 0 d) (get_or s n d) (get_or s i d) (get_or s j d) (get_or r k d)
     (rs 0 n d (omega arith) (omega arith))
     (rs i j d ij jn)
-    (lt_le _ _ (subst (λ z. key kx ky z <ℤ key kx ky (get_or r k d)) foot (neg_key kx ky _ _ (rr k m d km (omega arith)))))
-    (lt_le _ _ (subst (λ z. key kx ky (get_or r k d) <ℤ key kx ky z) (sym top) (neg_key kx ky _ _ (rr 0 k d k0 (omega arith)))))
+    (weaken _ _ (subst (λ z. key kx ky z <ℤ key kx ky (get_or r k d)) foot (neg_key kx ky _ _ (rr k m d km (omega arith)))))
+    (weaken _ _ (subst (λ z. key kx ky (get_or r k d) <ℤ key kx ky z) (sym top) (neg_key kx ky _ _ (rr 0 k d k0 (omega arith)))))
     (pair_end kx ky s ts i j n d ij (omega arith) (omega arith))
     (pair_start kx ky s ts i j d ij jn)
     (subst (λ z. pos 0 <ℤ cross (get_or s 0 d) z (get_or r k d)) (sym top)
@@ -202,7 +171,7 @@ module _ (kx ky : ℤ) (there back vs : List Pt) (l : Loop kx ky there back vs) 
       (lt_turn (get_or back k d) (get_or back (length back - 1) d) (get_or back j d)
       (lt_turn (get_or back j d) (get_or back k d) (get_or back (length back - 1) d) (l.back_turns j k (length back - 1) d jk (omega (arith, l.back_two)) (omega (arith, l.back_two)))))
   one_two (suc i) j k h j0 jk kn =
-      elim (order (suc (suc i)) (length there)) [
+      elim (below_or_at_least (suc (suc i)) (length there)) [
         | inl inner ↦ two_back (suc i) j k (omega arith) (omega arith) jk (omega arith)
         | inr at_end ↦ subst (λ z. pos 0 <ℤ cross z (get_or back j d) (get_or back k d)) (sym (ap (λ n. get_or there n d) (end_is at_end) ∙ top)) (l.back_turns 0 j k d j0 jk (omega arith))
       ]
@@ -212,15 +181,15 @@ module _ (kx ky : ℤ) (there back vs : List Pt) (l : Loop kx ky there back vs) 
 
   by_kind : (i j k : ℕ) → i < j → j < k → k < length vs → pos 0 <ℤ cross (get_or vs i d) (get_or vs j d) (get_or vs k d)
   by_kind i j k ij jk kn =
-      elim (order k (length there)) [
+      elim (below_or_at_least k (length there)) [
         | inl low_k ↦ rw (l.low_at i d (omega arith), l.low_at j d (omega arith), l.low_at k d low_k) (l.there_turns i j k d ij jk low_k)
         | inr high_k ↦
             let ek = l.high_at (k - length there) k d (omega arith) (omega (arith, l.size)) in
-            elim (order j (length there)) [
+            elim (below_or_at_least j (length there)) [
               | inl low_j ↦ rw (l.low_at i d (omega arith), l.low_at j d low_j, ek) (two_there i j (k - length there + 1) ij low_j (omega arith) (omega (arith, l.size)))
               | inr high_j ↦
                   let ej = l.high_at (j - length there) j d (omega arith) (omega (arith, l.size)) in
-                  elim (order i (length there)) [
+                  elim (below_or_at_least i (length there)) [
                     | inl low_i ↦ rw (l.low_at i d low_i, ej, ek) (one_two i (j - length there + 1) (k - length there + 1) low_i (omega arith) (omega arith) (omega (arith, l.size)))
                     | inr high_i ↦
                         let ei = l.high_at (i - length there) i d (omega arith) (omega (arith, l.size)) in
@@ -237,7 +206,7 @@ loop_turns kx ky there back vs l i j k d ij jk kn = by_kind kx ky there back vs 
 pub push_turns : (kx ky : ℤ) (s : List Pt) (c : Pt) → TurnsLeft s → Rising kx ky (s ++ c ∷ []) → ((i j : ℕ) (d : Pt) → j ≡ i + 1 → j + 1 ≡ length s → pos 0 <ℤ cross (get_or s i d) (get_or s j d) c) → TurnsLeft (s ++ c ∷ [])
 push_turns kx ky s c turns rises end i j k d ij jk kn =
     let size : length (s ++ c ∷ []) ≡ length s + 1 = simp length-append (omega arith) in
-    elim (order k (length s)) [
+    elim (below_or_at_least k (length s)) [
       | inl old ↦ rw (get_or-append s (c ∷ []) d i (omega arith), get_or-append s (c ∷ []) d j (omega arith), get_or-append s (c ∷ []) d k old) (turns i j k d ij jk old)
       | inr new ↦
           let last : get_or (s ++ c ∷ []) k d ≡ c = last_is (omega (arith, size)) in
@@ -261,7 +230,7 @@ push_turns kx ky s c turns rises end i j k d ij jk kn =
 
     from_last : (m n : ℕ) → m < n → n + 1 ≡ length s → pos 0 <ℤ cross (get_or s m d) (get_or s n d) c
     from_last m n h e =
-        elim (order (m + 1) n) [
+        elim (below_or_at_least (m + 1) n) [
           | inl far ↦ turns_end kx ky (get_or s m d) (get_or s (n - 1) d) (get_or s n d) c (lifted m (n - 1) (omega arith) (omega arith)) (lifted (n - 1) n (omega arith) (omega arith)) (to_new n (omega arith))
               (turns m (n - 1) n d (omega arith) (omega arith) (omega arith)) (end (n - 1) n d (omega arith) e)
           | inr next ↦ end m n d (omega arith) e
@@ -269,7 +238,7 @@ push_turns kx ky s c turns rises end i j k d ij jk kn =
 
     to_end : (m n : ℕ) → m < n → n < length s → pos 0 <ℤ cross (get_or s m d) (get_or s n d) c
     to_end m n h l =
-        elim (order n (length s - 1)) [
+        elim (below_or_at_least n (length s - 1)) [
           | inl inner ↦ turns_on kx ky (get_or s m d) (get_or s n d) (get_or s (length s - 1) d) c (lifted m n h l) (lifted n (length s - 1) inner (omega arith)) (to_new (length s - 1) (omega arith))
               (turns m n (length s - 1) d h inner (omega arith)) (from_last n (length s - 1) inner (omega arith))
           | inr top ↦ from_last m n h (omega arith)

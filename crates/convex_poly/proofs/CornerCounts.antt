@@ -9,10 +9,11 @@ use Rattle.spot_terms.specs.Hull.{Before, IsCornerList, IsHullOf}
 use Rattle.spot_terms.specs.Lists.{Includes}
 use Rattle.spot_terms.proofs.ListLemmas.{all_included, all_of}
 use Rattle.spot_terms.proofs.Ring.{ring, Exp, var, ◌⊕◌, ◌⊖◌, ◌⊗◌}
+use Rattle.spot_terms.proofs.Orders.{difference_positive, irreflexive, zero_not_positive, sum_of_positives, product_positive}
 use Rattle.convex_poly.specs.Chains.{key}
 use Rattle.convex_poly.specs.Polygons.{IsPosition}
 use Rattle.convex_poly.specs.Turns.{cross}
-use Rattle.convex_poly.proofs.Chains.{positive_sum, positive_product, positive_part}
+use Rattle.convex_poly.proofs.Chains.{positive_part}
 use Rattle.convex_poly.proofs.Corners.{FanLeft, corner_fan}
 use Rattle.convex_poly.proofs.Crosses.{cross_exp, cross_second}
 use Rattle.convex_poly.proofs.HullCorners.{far, before_key}
@@ -68,12 +69,9 @@ IsAfter o a = key far (pos 1) o <ℤ key far (pos 1) a
 
 fan_on : (o a b c : Pt) → IsAfter o a → IsAfter o b → IsAfter o c → pos 0 <ℤ cross o a b → pos 0 <ℤ cross o b c → pos 0 <ℤ cross o a c
 fan_on o a b c ha hb hc ab bc =
-    positive_part (cross o a c) (key far (pos 1) b -ℤ key far (pos 1) o) (gap (key far (pos 1) o) (key far (pos 1) b) hb)
+    positive_part (cross o a c) (key far (pos 1) b -ℤ key far (pos 1) o) (difference_positive (key far (pos 1) o) (key far (pos 1) b) hb)
     (subst (λ z. pos 0 <ℤ z) (sym (fan_sum far (pos 1) o.x o.y a.x a.y b.x b.y c.x c.y))
-    (positive_sum _ _ (positive_product _ _ ab (gap (key far (pos 1) o) (key far (pos 1) c) hc)) (positive_product _ _ bc (gap (key far (pos 1) o) (key far (pos 1) a) ha))))
-  where
-    gap : (z w : ℤ) → z <ℤ w → pos 0 <ℤ (w -ℤ z)
-    gap z w h = omega (arith, ints)
+    (sum_of_positives _ _ (product_positive _ _ ab (difference_positive (key far (pos 1) o) (key far (pos 1) c) hc)) (product_positive _ _ bc (difference_positive (key far (pos 1) o) (key far (pos 1) a) ha))))
 
 fan_each : (o a b : Pt) (cs : List Pt) → IsAfter o a → IsAfter o b → AllByRecursion (IsAfter o) cs → pos 0 <ℤ cross o a b → AllByRecursion (λ c. pos 0 <ℤ cross o b c) cs → AllByRecursion (λ c. pos 0 <ℤ cross o a c) cs
 fan_each o a b [] ha hb hc ab h = tt
@@ -83,13 +81,10 @@ pub fan_all : (o a : Pt) (bs : List Pt) → IsAfter o a → AllByRecursion (IsAf
 fan_all o a [] ha hb f = tt
 fan_all o a (b ∷ bs) ha hb f = (f.0, fan_each o a b bs ha hb.0 hb.1 f.0 (fan_all o b bs hb.0 hb.1 f.1))
 
-above_differs : (z : ℤ) → z ≡ pos 0 → pos 0 <ℤ z → ⊥
-above_differs z e h = omega (arith, ints)
-
 fan_distinct : (o a : Pt) (bs : List Pt) → IsAfter o a → AllByRecursion (IsAfter o) bs → FanLeft o a bs → IsDistinct (a ∷ bs)
 fan_distinct o a [] ha hb f = (tt, tt)
 fan_distinct o a (b ∷ bs) ha hb f = (
-  all_map (λ c. pos 0 <ℤ cross o a c) (λ c. a ≡ c → ⊥) (λ c h e. above_differs (cross o a c) (ap (λ (z : Pt). cross o a z) (sym e) ∙ cross_second o a) h) (b ∷ bs) (fan_all o a (b ∷ bs) ha hb f),
+  all_map (λ c. pos 0 <ℤ cross o a c) (λ c. a ≡ c → ⊥) (λ c h e. zero_not_positive (cross o a c) (ap (λ (z : Pt). cross o a z) (sym e) ∙ cross_second o a) h) (b ∷ bs) (fan_all o a (b ∷ bs) ha hb f),
   fan_distinct o b bs hb.0 hb.1 f.1,
 )
 
@@ -97,11 +92,8 @@ pub after_all : (o : Pt) (bs : List Pt) → IsPosition o → AllByRecursion IsPo
 after_all o [] p h k = tt
 after_all o (b ∷ bs) p h k = (before_key o b p h.0 k.0, after_all o bs p h.1 k.1)
 
-not_same : (z : ℤ) → z <ℤ z → ⊥
-not_same z h = omega (arith, ints)
-
 after_distinct : (o : Pt) (bs : List Pt) → AllByRecursion (IsAfter o) bs → AllByRecursion (λ b. o ≡ b → ⊥) bs
-after_distinct o bs h = all_map (IsAfter o) (λ b. o ≡ b → ⊥) (λ b k e. not_same (key far (pos 1) o) (subst (λ (z : Pt). key far (pos 1) o <ℤ key far (pos 1) z) (sym e) k)) bs h
+after_distinct o bs h = all_map (IsAfter o) (λ b. o ≡ b → ⊥) (λ b k e. irreflexive (key far (pos 1) o) (subst (λ (z : Pt). key far (pos 1) o <ℤ key far (pos 1) z) (sym e) k)) bs h
 
 -- the corners are different points
 pub corners_distinct : (vs : List Pt) → AllByRecursion IsPosition vs → IsCornerList vs → IsDistinct vs

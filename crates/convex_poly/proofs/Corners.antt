@@ -12,17 +12,12 @@ use Rattle.spot_terms.proofs.Products.{square_not_negative}
 use Rattle.spot_terms.proofs.Ring.{ring, var, num}
 use Rattle.spot_terms.proofs.Mixes.{Affine}
 use Rattle.spot_terms.proofs.Hulls.{mix_hull, hull_not_below, hull_subset, hull_first}
+use Rattle.spot_terms.proofs.Orders.{difference_positive, irreflexive, natural_of, opposite_not_negative, positive_not_negative, square_positive, sum_not_negative, sum_positive, zero_by_signs, zero_not_negative}
 use Rattle.convex_poly.specs.Turns.{cross, inner, EdgesLeft, ClosingLeft, IsOn}
 use Rattle.convex_poly.proofs.Crosses.{inner_exp, cross_affine, inner_affine, cross_turn, cross_swap, cross_first, cross_second, cross_parts, cross_weighs_x, cross_weighs_y, inner_weighs_x, inner_weighs_y, inner_parts}
 use Rattle.convex_poly.proofs.Places.{all_map, same_index, compare3}
 
-at_zero : (z : ℤ) → z ≡ pos 0 → pos 0 ≤ℤ z
-at_zero z e = omega (arith, ints)
-
 -- ---- a triangle
-whole : (z : ℤ) → pos 0 ≤ℤ z → (n : ℕ) × (z ≡ pos n)
-whole (pos n) h = (n, refl)
-whole (negsuc n) h = absurd (omega (arith, ints))
 
 triangle_by : (a b c q : Pt) (A B C : ℕ) → cross b c q ≡ pos A → cross c a q ≡ pos B → cross a b q ≡ pos C → pos 0 <ℤ cross a b c → InHull (a ∷ b ∷ c ∷ []) q
 triangle_by a b c q A B C ha hb hc s =
@@ -39,9 +34,9 @@ triangle_by a b c q A B C ha hb hc s =
 
 pub triangle : (a b c q : Pt) → pos 0 <ℤ cross a b c → pos 0 ≤ℤ cross b c q → pos 0 ≤ℤ cross c a q → pos 0 ≤ℤ cross a b q → InHull (a ∷ b ∷ c ∷ []) q
 triangle a b c q s ha hb hc =
-    let A = whole (cross b c q) ha in
-    let B = whole (cross c a q) hb in
-    let C = whole (cross a b q) hc in
+    let A = natural_of (cross b c q) ha in
+    let B = natural_of (cross c a q) hb in
+    let C = natural_of (cross a b q) hc in
     triangle_by a b c q A.0 B.0 C.0 A.1 B.1 C.1 s
 
 -- ---- the fan of triangles from the first corner
@@ -61,10 +56,7 @@ last_of a [] = a
 last_of a (b ∷ bs) = last_of b bs
 
 from_swap : (a b q : Pt) → cross a b q ≤ℤ pos 0 → pos 0 ≤ℤ cross b a q
-from_swap a b q h = let e = cross_swap b a q in rw e (minus (cross a b q) h)
-  where
-    minus : (z : ℤ) → z ≤ℤ pos 0 → pos 0 ≤ℤ (pos 0 -ℤ z)
-    minus z h = omega (arith, ints)
+from_swap a b q h = let e = cross_swap b a q in rw e (opposite_not_negative (cross a b q) h)
 
 -- q is left of the way o, a, b, rest and back to o, whose edges turn left as seen from o
 pub fan : (o a b : Pt) (rest : List Pt) (q : Pt) → pos 0 ≤ℤ cross o a q → ChainLeft q a (b ∷ rest) → pos 0 ≤ℤ cross (last_of b rest) o q → FanLeft o a (b ∷ rest) → InHull (o ∷ a ∷ b ∷ rest) q
@@ -91,14 +83,8 @@ abbrev pub IsBeside : Pt → Pt × Pt → Type 0
 IsBeside c e = (c ≡ e.0) ⊎ (c ≡ e.1) ⊎ IsLeftOf e.0 e.1 c
 
 not_before : (o : Pt) → Before o o → ⊥
-not_before o (inl h) = step o.x h
-  where
-    step : (z : ℤ) → z <ℤ z → ⊥
-    step z h = omega (arith, ints)
-not_before o (inr h) = step o.y h.1
-  where
-    step : (z : ℤ) → z <ℤ z → ⊥
-    step z h = omega (arith, ints)
+not_before o (inl h) = irreflexive o.x h
+not_before o (inr h) = irreflexive o.y h.1
 
 -- the first corner is left of each edge that it is no end of
 fan_from : (o first a : Pt) (bs : List Pt) → Before o a → AllByRecursion (Before o) bs → AllByRecursion (λ e. IsBeside o e) (edges_to first (a ∷ bs)) → FanLeft o a bs
@@ -135,12 +121,9 @@ left_in_hull (o ∷ a ∷ b ∷ rest) q h t e c =
 -- ---- what a corner list says of its edges
 
 beside_left : (c : Pt) (e : Pt × Pt) → IsBeside c e → pos 0 ≤ℤ cross e.0 e.1 c
-beside_left c e (inl h) = subst (λ z. pos 0 ≤ℤ cross e.0 e.1 z) (sym h) (at_zero _ (cross_first e.0 e.1))
-beside_left c e (inr (inl h)) = subst (λ z. pos 0 ≤ℤ cross e.0 e.1 z) (sym h) (at_zero _ (cross_second e.0 e.1))
-beside_left c e (inr (inr h)) = weak (cross e.0 e.1 c) h
-  where
-    weak : (z : ℤ) → pos 0 <ℤ z → pos 0 ≤ℤ z
-    weak z h = omega (arith, ints)
+beside_left c e (inl h) = subst (λ z. pos 0 ≤ℤ cross e.0 e.1 z) (sym h) (zero_not_negative _ (cross_first e.0 e.1))
+beside_left c e (inr (inl h)) = subst (λ z. pos 0 ≤ℤ cross e.0 e.1 z) (sym h) (zero_not_negative _ (cross_second e.0 e.1))
+beside_left c e (inr (inr h)) = positive_not_negative (cross e.0 e.1 c) h
 
 edge_at : (first : Pt) (vs : List Pt) (i : ℕ) (d : Pt) → suc i < length vs → Includes (edges_to first vs) (get_or vs i d, get_or vs (suc i) d)
 edge_at first [] i d h = absurd (omega arith)
@@ -175,27 +158,13 @@ hull_closing_left (a ∷ rest) q t h i d l =
 
 -- ---- one and two corners
 
-square_above : (z : ℤ) → pos 0 <ℤ z → pos 0 <ℤ (z *ℤ z)
-square_above (pos zero) h = absurd (omega (arith, ints))
-square_above (pos (suc n)) h = omega (arith, ints)
-square_above (negsuc n) h = absurd (omega (arith, ints))
-
 -- the squared distance of two points, one before the other
 apart : (a b : Pt) → Before a b → pos 0 <ℤ (((b.x -ℤ a.x) *ℤ (b.x -ℤ a.x)) +ℤ ((b.y -ℤ a.y) *ℤ (b.y -ℤ a.y)))
-apart a b (inl h) = sum_above ((b.x -ℤ a.x) *ℤ (b.x -ℤ a.x)) ((b.y -ℤ a.y) *ℤ (b.y -ℤ a.y)) (square_above (b.x -ℤ a.x) (way a.x b.x h)) (square_not_negative (b.y -ℤ a.y))
+apart a b (inl h) = sum_positive ((b.x -ℤ a.x) *ℤ (b.x -ℤ a.x)) ((b.y -ℤ a.y) *ℤ (b.y -ℤ a.y)) (square_positive (b.x -ℤ a.x) (difference_positive a.x b.x h)) (square_not_negative (b.y -ℤ a.y))
+apart a b (inr h) = sum_positive ((b.x -ℤ a.x) *ℤ (b.x -ℤ a.x)) ((b.y -ℤ a.y) *ℤ (b.y -ℤ a.y)) (square_not_negative (b.x -ℤ a.x)) (square_positive (b.y -ℤ a.y) (difference_positive a.y b.y h.1))
   where
-    sum_above : (z w : ℤ) → pos 0 <ℤ z → pos 0 ≤ℤ w → pos 0 <ℤ (z +ℤ w)
-    sum_above z w h k = omega (arith, ints)
-
-    way : (z w : ℤ) → z <ℤ w → pos 0 <ℤ (w -ℤ z)
-    way z w h = omega (arith, ints)
-apart a b (inr h) = sum_above ((b.x -ℤ a.x) *ℤ (b.x -ℤ a.x)) ((b.y -ℤ a.y) *ℤ (b.y -ℤ a.y)) (square_not_negative (b.x -ℤ a.x)) (square_above (b.y -ℤ a.y) (way a.y b.y h.1))
-  where
-    sum_above : (z w : ℤ) → pos 0 ≤ℤ z → pos 0 <ℤ w → pos 0 <ℤ (z +ℤ w)
-    sum_above z w h k = omega (arith, ints)
-
-    way : (z w : ℤ) → z <ℤ w → pos 0 <ℤ (w -ℤ z)
-    way z w h = omega (arith, ints)
+    sum_positive : (z w : ℤ) → pos 0 ≤ℤ z → pos 0 <ℤ w → pos 0 <ℤ (z +ℤ w)
+    sum_positive z w h k = omega (arith, ints)
 
 on_by : (a b q : Pt) (A B : ℕ) → inner b a q ≡ pos A → inner a b q ≡ pos B → cross a b q ≡ pos 0 → pos 0 <ℤ (inner b a q +ℤ inner a b q) → InHull (a ∷ b ∷ []) q
 on_by a b q A B ha hb straight far =
@@ -220,8 +189,8 @@ on_by a b q A B ha hb straight far =
 
 pub on_in_hull : (a b q : Pt) → Before a b → IsOn a b q → InHull (a ∷ b ∷ []) q
 on_in_hull a b q h on =
-    let A = whole (inner b a q) on.from_b in
-    let B = whole (inner a b q) on.from_a in
+    let A = natural_of (inner b a q) on.from_b in
+    let B = natural_of (inner a b q) on.from_a in
     on_by a b q A.0 B.0 A.1 B.1 on.straight (subst (λ z. pos 0 <ℤ z) (sym (inner_parts a b q)) (apart a b h))
 
 -- ---- the loop over the edges
@@ -277,24 +246,18 @@ one_corner_back a q e = subst (InHull (a ∷ [])) e (hull_first a [])
 
 pub two_corners : (a b q : Pt) → InHull (a ∷ b ∷ []) q → IsOn a b q
 two_corners a b q h = record {
-  straight = pinned (cross a b q)
-      (hull_not_below _ (cross_affine a b) (a ∷ b ∷ []) q (at_zero _ (cross_first a b), (at_zero _ (cross_second a b), tt)) h)
-      (subst (λ z. pos 0 ≤ℤ z) (cross_swap b a q) (hull_not_below _ (cross_affine b a) (a ∷ b ∷ []) q (at_zero _ (cross_second b a), (at_zero _ (cross_first b a), tt)) h));
-  from_a = hull_not_below _ (inner_affine a b) (a ∷ b ∷ []) q (at_zero _ (inner_first a b), (squares a b, tt)) h;
-  from_b = hull_not_below _ (inner_affine b a) (a ∷ b ∷ []) q (squares b a, (at_zero _ (inner_first b a), tt)) h;
+  straight = zero_by_signs (cross a b q)
+      (hull_not_below _ (cross_affine a b) (a ∷ b ∷ []) q (zero_not_negative _ (cross_first a b), (zero_not_negative _ (cross_second a b), tt)) h)
+      (subst (λ z. pos 0 ≤ℤ z) (cross_swap b a q) (hull_not_below _ (cross_affine b a) (a ∷ b ∷ []) q (zero_not_negative _ (cross_second b a), (zero_not_negative _ (cross_first b a), tt)) h));
+  from_a = hull_not_below _ (inner_affine a b) (a ∷ b ∷ []) q (zero_not_negative _ (inner_first a b), (squares a b, tt)) h;
+  from_b = hull_not_below _ (inner_affine b a) (a ∷ b ∷ []) q (squares b a, (zero_not_negative _ (inner_first b a), tt)) h;
 }
   where
-    pinned : (z : ℤ) → pos 0 ≤ℤ z → pos 0 ≤ℤ (pos 0 -ℤ z) → z ≡ pos 0
-    pinned z h k = omega (arith, ints)
-
     inner_first : (a b : Pt) → inner a b a ≡ pos 0
     inner_first a b = ring (a.x ∷ a.y ∷ b.x ∷ b.y ∷ []) (inner_exp (var 0) (var 1) (var 2) (var 3) (var 0) (var 1)) (num (pos 0)) refl
 
-    sum_ok : (z w : ℤ) → pos 0 ≤ℤ z → pos 0 ≤ℤ w → pos 0 ≤ℤ (z +ℤ w)
-    sum_ok z w h k = omega (arith, ints)
-
     squares : (a b : Pt) → pos 0 ≤ℤ inner a b b
-    squares a b = sum_ok ((b.x -ℤ a.x) *ℤ (b.x -ℤ a.x)) ((b.y -ℤ a.y) *ℤ (b.y -ℤ a.y)) (square_not_negative (b.x -ℤ a.x)) (square_not_negative (b.y -ℤ a.y))
+    squares a b = sum_not_negative ((b.x -ℤ a.x) *ℤ (b.x -ℤ a.x)) ((b.y -ℤ a.y) *ℤ (b.y -ℤ a.y)) (square_not_negative (b.x -ℤ a.x)) (square_not_negative (b.y -ℤ a.y))
 
 abbrev pub origin : Pt
 origin = record { x = pos 0; y = pos 0 }

@@ -8,9 +8,10 @@ use Rattle.spot_terms.specs.declared.plain.Pt.{Pt}
 use Rattle.spot_terms.specs.Hull.{edges, edges_to, IsCornerList}
 use Rattle.spot_terms.specs.Lists.{Includes, Pairwise}
 use Rattle.spot_terms.proofs.ListLemmas.{includes_itself}
+use Rattle.spot_terms.proofs.Orders.{factor_zero, product_positive}
 use Rattle.convex_poly.specs.Pivots.{turn_of, along}
 use Rattle.convex_poly.specs.Polygons.{IsPosition}
-use Rattle.convex_poly.proofs.Chains.{positive_product, positive_part}
+use Rattle.convex_poly.proofs.Chains.{positive_part}
 use Rattle.convex_poly.proofs.CornerCounts.{IsDistinct, corners_distinct, distinct_few}
 use Rattle.convex_poly.proofs.Edges.{way_of, HasWayOf, one_way_one_start, edges-length}
 use Rattle.convex_poly.proofs.Leans.{turn_by, along_by, not_none}
@@ -23,14 +24,14 @@ pub record PointsAlong (u w : Pt) : Type 0 where
 -- two ways that point along one have one direction
 same_direction : (w : Pt) (e f : Pt × Pt) → PointsAlong (way_of e) w → PointsAlong (way_of f) w → HasWayOf e f
 same_direction w e f h k = record {
-  level = zero_of (along w w) (turn_of (way_of e) (way_of f)) (not_none w (way_of e) (inr (h.level, h.ahead)))
+  level = factor_zero (along w w) (turn_of (way_of e) (way_of f)) (not_none w (way_of e) (inr (h.level, h.ahead)))
       (turn_by w (way_of e) (way_of f) ∙ ap (λ z. (along w (way_of e) *ℤ z) -ℤ (turn_of w (way_of e) *ℤ along w (way_of f))) k.level
       ∙ ap (λ z. (along w (way_of e) *ℤ pos 0) -ℤ (z *ℤ along w (way_of f))) h.level ∙ both_none (along w (way_of e)) (along w (way_of f)));
   ahead = positive_part (along (way_of e) (way_of f)) (along w w) (not_none w (way_of e) (inr (h.level, h.ahead)))
       (subst (λ z. pos 0 <ℤ z) (turned (along w w) (along (way_of e) (way_of f)))
       (subst (λ z. pos 0 <ℤ z) (sym (along_by w (way_of e) (way_of f)
       ∙ ap (λ z. (along w (way_of e) *ℤ along w (way_of f)) +ℤ (z *ℤ turn_of w (way_of f))) h.level ∙ last_none (along w (way_of e) *ℤ along w (way_of f)) (turn_of w (way_of f))))
-      (positive_product (along w (way_of e)) (along w (way_of f)) h.ahead k.ahead)));
+      (product_positive (along w (way_of e)) (along w (way_of f)) h.ahead k.ahead)));
 }
   where
     both_none : (a b : ℤ) → (a *ℤ pos 0) -ℤ (pos 0 *ℤ b) ≡ pos 0
@@ -41,13 +42,6 @@ same_direction w e f h k = record {
 
     turned : (a b : ℤ) → a *ℤ b ≡ b *ℤ a
     turned a b = omega (arith, ints)
-
-    zero_of : (d z : ℤ) → pos 0 <ℤ d → d *ℤ z ≡ pos 0 → z ≡ pos 0
-    zero_of (pos (suc n)) (pos zero) h e = refl
-    zero_of (pos (suc n)) (pos (suc m)) h e = absurd (omega (arith, ints))
-    zero_of (pos (suc n)) (negsuc m) h e = absurd (omega (arith, ints))
-    zero_of (pos zero) z h e = absurd (omega (arith, ints))
-    zero_of (negsuc n) z h e = absurd (omega (arith, ints))
 
 -- ---- the starts of the edges differ
 

@@ -10,16 +10,11 @@ use Rattle.spot_terms.proofs.ListLemmas.{includes_front, includes_back, includes
 use Rattle.spot_terms.proofs.Hulls.{hull_mix_at, mix_hull_at}
 use Rattle.spot_terms.proofs.Mixes.{mix_to, positive_times}
 use Rattle.spot_terms.proofs.Ring.{ring, var, num, ◌⊖◌, ◌⊗◌}
+use Rattle.spot_terms.proofs.Orders.{equal_of_difference, factor_zero}
 use Rattle.convex_poly.specs.Pivots.{AreDisjoint, minus, each_minus, differences, IsLeftwards, AreLeftwards}
 use Rattle.convex_poly.proofs.Ways.{Meets0}
 use Rattle.convex_poly.proofs.Pivots.{pivot_apart, pivot_or_meets}
 use Rattle.convex_poly.proofs.Differences.{to_differences, from_differences}
-
-pub part_ok : (d z : ℤ) → pos 0 <ℤ d → pos 0 ≤ℤ (d *ℤ z) → pos 0 ≤ℤ z
-part_ok (pos zero) z h k = absurd (omega (arith, ints))
-part_ok (pos (suc n)) (pos m) h k = omega (arith, ints)
-part_ok (pos (suc n)) (negsuc m) h k = absurd (omega (arith, ints))
-part_ok (negsuc n) z h k = absurd (omega (arith, ints))
 
 -- a common fraction point
 pub record Common (a b : List Pt) : Type 0 where
@@ -31,36 +26,18 @@ pub record Common (a b : List Pt) : Type 0 where
 pub meets_common : (a b : List Pt) → Meets0 (differences a b) → Common a b
 meets_common a b z =
     let r = from_differences a b z.n (pos 0) (pos 0) z.mix in
-    let e : r.px ≡ r.qx = same r.px r.qx r.x in
-    let f : r.py ≡ r.qy = same r.py r.qy r.y in
+    let e : r.px ≡ r.qx = equal_of_difference r.px r.qx r.x in
+    let f : r.py ≡ r.qy = equal_of_difference r.py r.qy r.y in
     record {
       p = record { x = r.px; y = r.py; d = z.n };
       whole = omega (arith, z.some);
       in_a = mix_hull_at a (record { x = r.px; y = r.py; d = z.n }) (record { n = z.n; X = r.px; Y = r.py; some = z.some; mix = r.in_p; x = refl; y = refl });
       in_b = mix_hull_at b (record { x = r.px; y = r.py; d = z.n }) (record { n = z.n; X = r.px; Y = r.py; some = z.some; mix = mix_to b z.n z.n _ _ _ _ refl (sym e) (sym f) r.in_q; x = refl; y = refl });
     }
-  where
-    same : (p q : ℤ) → pos 0 ≡ p -ℤ q → p ≡ q
-    same p q h = omega (arith, ints)
-
-zero_of : (d z : ℤ) → pos 0 <ℤ d → d *ℤ z ≡ pos 0 → z ≡ pos 0
-zero_of d z h e = pin z (part_ok d z h (low (d *ℤ z) e)) (part_ok d (pos 0 -ℤ z) h (subst (λ t. pos 0 ≤ℤ t) (sym (flip d z)) (high (d *ℤ z) e)))
-  where
-    low : (s : ℤ) → s ≡ pos 0 → pos 0 ≤ℤ s
-    low s e = omega (arith, ints)
-
-    high : (s : ℤ) → s ≡ pos 0 → pos 0 ≤ℤ (pos 0 -ℤ s)
-    high s e = omega (arith, ints)
-
-    flip : (k z : ℤ) → k *ℤ (pos 0 -ℤ z) ≡ pos 0 -ℤ (k *ℤ z)
-    flip k z = ring (k ∷ z ∷ []) (var 0 ⊗ (num (pos 0) ⊖ var 1)) (num (pos 0) ⊖ (var 0 ⊗ var 1)) refl
-
-    pin : (z : ℤ) → pos 0 ≤ℤ z → pos 0 ≤ℤ (pos 0 -ℤ z) → z ≡ pos 0
-    pin z h k = omega (arith, ints)
 
 meet_line : (S T p d X P : ℤ) → pos 0 <ℤ d → S *ℤ p ≡ d *ℤ X → T *ℤ p ≡ d *ℤ P → (T *ℤ X) -ℤ (S *ℤ P) ≡ pos 0
 meet_line S T p d X P h e f =
-    zero_of d ((T *ℤ X) -ℤ (S *ℤ P)) h
+    factor_zero d ((T *ℤ X) -ℤ (S *ℤ P)) h
     (ring (S ∷ T ∷ d ∷ X ∷ P ∷ []) (var 2 ⊗ ((var 1 ⊗ var 3) ⊖ (var 0 ⊗ var 4))) ((var 1 ⊗ (var 2 ⊗ var 3)) ⊖ (var 0 ⊗ (var 2 ⊗ var 4))) refl
     ∙ ap (λ z. (T *ℤ z) -ℤ (S *ℤ (d *ℤ P))) (sym e) ∙ ap (λ z. (T *ℤ (S *ℤ p)) -ℤ (S *ℤ z)) (sym f)
     ∙ ring (S ∷ T ∷ p ∷ []) ((var 1 ⊗ (var 0 ⊗ var 2)) ⊖ (var 0 ⊗ (var 1 ⊗ var 2))) (num (pos 0)) refl)

@@ -8,12 +8,11 @@ use Rattle.spot_terms.specs.declared.plain.Pt.{Pt}
 use Rattle.spot_terms.specs.Hull.{edges, edges_to, IsCornerList}
 use Rattle.spot_terms.specs.Lists.{Includes}
 use Rattle.spot_terms.proofs.ListLemmas.{all_included}
-use Rattle.spot_terms.proofs.Mixes.{not_below_times}
 use Rattle.spot_terms.proofs.Products.{square_not_negative}
 use Rattle.spot_terms.proofs.Ring.{ring, Exp, var, num, ◌⊕◌, ◌⊖◌, ◌⊗◌}
+use Rattle.spot_terms.proofs.Orders.{sum_not_negative, zero_not_positive, zero_times, product_not_negative, product_positive}
 use Rattle.convex_poly.specs.Pivots.{minus, turn_of, along}
 use Rattle.convex_poly.specs.Turns.{cross}
-use Rattle.convex_poly.proofs.Chains.{positive_product}
 use Rattle.convex_poly.proofs.Corners.{IsBeside, edge_left}
 use Rattle.convex_poly.proofs.Crosses.{cross_exp}
 
@@ -89,24 +88,18 @@ next_area a b c d =
     (cross_exp (var 0) (var 1) (var 2) (var 3) (var 4) (var 5) ⊕ (((var 2 ⊖ var 0) ⊗ (var 7 ⊖ var 5)) ⊖ ((var 3 ⊖ var 1) ⊗ (var 6 ⊖ var 4)))) refl
 
 module _ (a b c d : Pt) (way : HasWayOf (a, b) (c, d)) (first : pos 0 ≤ℤ cross a b c) (second : pos 0 ≤ℤ cross c d a) where
-  none : (z : ℤ) → pos 0 *ℤ z ≡ pos 0
-  none z = omega (arith, ints)
-
   flat : cross a b c ≡ pos 0
   flat = by_lt_z (pos 0) (cross a b c)
       (λ up. absurd (clash (along (minus b a) (minus b a) *ℤ cross c d a) (along (minus b a) (minus d c) *ℤ cross a b c) (turn_of (minus b a) (minus d c) *ℤ along (minus b a) (minus a c))
-      (areas a b c d) (not_below_times (along (minus b a) (minus b a)) (cross c d a) squares second) (positive_product (along (minus b a) (minus d c)) (cross a b c) way.ahead up)
-      (ap (λ z. z *ℤ along (minus b a) (minus a c)) way.level ∙ none (along (minus b a) (minus a c)))))
+      (areas a b c d) (product_not_negative (along (minus b a) (minus b a)) (cross c d a) squares second) (product_positive (along (minus b a) (minus d c)) (cross a b c) way.ahead up)
+      (ap (λ z. z *ℤ along (minus b a) (minus a c)) way.level ∙ zero_times (along (minus b a) (minus a c)))))
       (λ down. pin (cross a b c) first down)
     where
       pin : (z : ℤ) → pos 0 ≤ℤ z → z ≤ℤ pos 0 → z ≡ pos 0
       pin z h k = omega (arith, ints)
 
-      sum_ok : (z w : ℤ) → pos 0 ≤ℤ z → pos 0 ≤ℤ w → pos 0 ≤ℤ (z +ℤ w)
-      sum_ok z w h k = omega (arith, ints)
-
       squares : pos 0 ≤ℤ along (minus b a) (minus b a)
-      squares = sum_ok ((b.x -ℤ a.x) *ℤ (b.x -ℤ a.x)) ((b.y -ℤ a.y) *ℤ (b.y -ℤ a.y)) (square_not_negative (b.x -ℤ a.x)) (square_not_negative (b.y -ℤ a.y))
+      squares = sum_not_negative ((b.x -ℤ a.x) *ℤ (b.x -ℤ a.x)) ((b.y -ℤ a.y) *ℤ (b.y -ℤ a.y)) (square_not_negative (b.x -ℤ a.x)) (square_not_negative (b.y -ℤ a.y))
 
       clash : (p q r : ℤ) → p ≡ (pos 0 -ℤ q) -ℤ r → pos 0 ≤ℤ p → pos 0 <ℤ q → r ≡ pos 0 → ⊥
       clash p q r e h k f = omega (arith, ints)
@@ -121,10 +114,7 @@ module _ (a b c d : Pt) (way : HasWayOf (a, b) (c, d)) (first : pos 0 ≤ℤ cro
   is_end : (p : Pt) → cross a b p ≡ pos 0 → IsBeside p (a, b) → (p ≡ a) ⊎ (p ≡ b)
   is_end p e (inl h) = inl h
   is_end p e (inr (inl h)) = inr h
-  is_end p e (inr (inr h)) = absurd (above (cross a b p) e h)
-    where
-      above : (z : ℤ) → z ≡ pos 0 → pos 0 <ℤ z → ⊥
-      above z e h = omega (arith, ints)
+  is_end p e (inr (inr h)) = absurd (zero_not_positive (cross a b p) e h)
 
   -- the second edge neither turns back nor stands still
   not_back : c ≡ b → (d ≡ a) ⊎ (d ≡ b) → ⊥
@@ -133,21 +123,15 @@ module _ (a b c d : Pt) (way : HasWayOf (a, b) (c, d)) (first : pos 0 ≤ℤ cro
       turned : along (minus b a) (minus a b) ≡ pos 0 -ℤ along (minus b a) (minus b a)
       turned = ring (a.x ∷ a.y ∷ b.x ∷ b.y ∷ []) (along_exp (var 2 ⊖ var 0) (var 3 ⊖ var 1) (var 0 ⊖ var 2) (var 1 ⊖ var 3)) (num (pos 0) ⊖ along_exp (var 2 ⊖ var 0) (var 3 ⊖ var 1) (var 2 ⊖ var 0) (var 3 ⊖ var 1)) refl
 
-      sum_ok : (z w : ℤ) → pos 0 ≤ℤ z → pos 0 ≤ℤ w → pos 0 ≤ℤ (z +ℤ w)
-      sum_ok z w h k = omega (arith, ints)
-
       squares : pos 0 ≤ℤ along (minus b a) (minus b a)
-      squares = sum_ok ((b.x -ℤ a.x) *ℤ (b.x -ℤ a.x)) ((b.y -ℤ a.y) *ℤ (b.y -ℤ a.y)) (square_not_negative (b.x -ℤ a.x)) (square_not_negative (b.y -ℤ a.y))
+      squares = sum_not_negative ((b.x -ℤ a.x) *ℤ (b.x -ℤ a.x)) ((b.y -ℤ a.y) *ℤ (b.y -ℤ a.y)) (square_not_negative (b.x -ℤ a.x)) (square_not_negative (b.y -ℤ a.y))
 
       back : (s p : ℤ) → p ≡ pos 0 -ℤ s → pos 0 ≤ℤ s → pos 0 <ℤ p → ⊥
       back s p e h k = omega (arith, ints)
-  not_back e (inr f) = above (along (minus b a) (minus d c)) (ap (λ (z : Pt). along (minus b a) (minus z c)) f ∙ ap (λ (z : Pt). along (minus b a) (minus b z)) e ∙ still) way.ahead
+  not_back e (inr f) = zero_not_positive (along (minus b a) (minus d c)) (ap (λ (z : Pt). along (minus b a) (minus z c)) f ∙ ap (λ (z : Pt). along (minus b a) (minus b z)) e ∙ still) way.ahead
     where
       still : along (minus b a) (minus b b) ≡ pos 0
       still = ring (a.x ∷ a.y ∷ b.x ∷ b.y ∷ []) (along_exp (var 2 ⊖ var 0) (var 3 ⊖ var 1) (var 2 ⊖ var 2) (var 3 ⊖ var 3)) (num (pos 0)) refl
-
-      above : (z : ℤ) → z ≡ pos 0 → pos 0 <ℤ z → ⊥
-      above z e h = omega (arith, ints)
 
   same_start : IsBeside c (a, b) → IsBeside d (a, b) → c ≡ a
   same_start h k = elim (is_end c flat h) [ inl e ↦ e | inr e ↦ absurd (not_back e (is_end d flat_end k)) ]

@@ -17,7 +17,8 @@ use Rattle.convex_poly.specs.Polygons.{IsPosition, IsPolygon}
 use Rattle.convex_poly.proofs.Orders.{permuted_in, permuted_all}
 use Rattle.convex_poly.specs.Chains.{key, HasMeetingEnds, Rising, Toward, IsChain, IsOrdered, IsSideOf, between_ends}
 use Rattle.spot_terms.proofs.ListLemmas.{all_included, all_of, includes_at, includes_back, includes_front}
-use Rattle.convex_poly.proofs.Places.{all_at, place_of, order}
+use Rattle.spot_terms.proofs.Orders.{asymmetric, irreflexive, below_or_at_least}
+use Rattle.convex_poly.proofs.Places.{all_at, place_of}
 use Rattle.convex_poly.proofs.Chains.{Loop, loop_turns, neg_key, key_neg}
 use Rattle.convex_poly.proofs.ChainSteps.{chains_hull, all_append}
 use Rattle.convex_poly.proofs.CornerLists.{StartsFirst, corner_list_of}
@@ -37,14 +38,11 @@ pub before_key : (a b : Pt) → IsPosition a → IsPosition b → Before a b →
 before_key a b h k (inl l) = key_up a.x a.y b.x b.y h.y k.y l
 before_key a b h k (inr l) = key_level a.x a.y b.x b.y l.0 l.1
 
-clash : (z w : ℤ) → z <ℤ w → w <ℤ z → ⊥
-clash z w h k = omega (arith, ints)
-
 pub key_before : (a b : Pt) → IsPosition a → IsPosition b → key far (pos 1) a <ℤ key far (pos 1) b → Before a b
 key_before a b h k l =
     by_lt_z a.x b.x (λ less. inl less)
     (λ back. by_lt_z b.x a.x
-    (λ more. absurd (clash (key far (pos 1) a) (key far (pos 1) b) l (key_up b.x b.y a.x a.y k.y h.y more)))
+    (λ more. absurd (asymmetric (key far (pos 1) a) (key far (pos 1) b) l (key_up b.x b.y a.x a.y k.y h.y more)))
     (λ level. let e : a.x ≡ b.x = pin a.x b.x back level in inr (e, by_lt_z a.y b.y (λ less. less) (λ high. absurd (above a.x a.y b.x b.y e l high)))))
   where
     pin : (z w : ℤ) → w ≤ℤ z → z ≤ℤ w → z ≡ w
@@ -81,14 +79,11 @@ reverse_includes s u i =
 pub single : (p : Pt) (s : List Pt) (kx ky : ℤ) → 0 < length s → AllByRecursion (Includes (p ∷ [])) s → Rising kx ky s → s ≡ p ∷ []
 single p [] kx ky h a r = absurd (omega arith)
 single p (u ∷ []) kx ky h a r = elim a.0 [ inl e ↦ ap (λ (z : Pt). z ∷ []) e | inr n ↦ absurd n ]
-single p (u ∷ v ∷ s) kx ky h a r = absurd (still (key kx ky p) (subst (λ (z : Pt). key kx ky z <ℤ key kx ky p) (only u a.0) (subst (λ (z : Pt). key kx ky u <ℤ key kx ky z) (only v a.1.0) (r 0 1 p (omega arith) (omega arith)))))
+single p (u ∷ v ∷ s) kx ky h a r = absurd (irreflexive (key kx ky p) (subst (λ (z : Pt). key kx ky z <ℤ key kx ky p) (only u a.0) (subst (λ (z : Pt). key kx ky u <ℤ key kx ky z) (only v a.1.0) (r 0 1 p (omega arith) (omega arith)))))
   where
     only : (w : Pt) → Includes (p ∷ []) w → w ≡ p
     only w (inl e) = e
     only w (inr n) = absurd n
-
-    still : (z : ℤ) → z <ℤ z → ⊥
-    still z h = omega (arith, ints)
 
 pub one_point : (p : Pt) → IsHullOf (p ∷ []) (p ∷ [])
 one_point p = record {
@@ -101,7 +96,7 @@ one_point p = record {
 
 pub two_of : (kx ky : ℤ) (s chain : List Pt) → 2 ≤ length s → Rising kx ky s → IsChain kx ky s chain → 2 ≤ length chain
 two_of kx ky s chain two r c =
-    elim (order (length chain) 2) [
+    elim (below_or_at_least (length chain) 2) [
       | inr enough ↦ enough
       | inl few ↦ absurd (one (omega (arith, few, c.ends.some (omega (arith, two)))))
     ]
@@ -109,14 +104,11 @@ two_of kx ky s chain two r c =
     d : Pt
     d = record { x = pos 0; y = pos 0 }
 
-    still : (z : ℤ) → z <ℤ z → ⊥
-    still z h = omega (arith, ints)
-
     one : length chain ≡ 1 → ⊥
     one e =
         let first = c.ends.first d (omega (arith, two)) in
         let last = c.ends.last 0 (length s - 1) d (omega (arith, e)) (omega (arith, two)) in
-        still (key kx ky (get_or chain 0 d))
+        irreflexive (key kx ky (get_or chain 0 d))
         (subst (λ (z : Pt). key kx ky z <ℤ key kx ky (get_or chain 0 d)) (sym first)
         (subst (λ (z : Pt). key kx ky (get_or s 0 d) <ℤ key kx ky z) (sym last) (r 0 (length s - 1) d (omega (arith, two)) (omega (arith, two)))))
 
@@ -169,7 +161,7 @@ module _ (s there back : List Pt) (positions : AllByRecursion IsPosition s) (t :
     where
       go : (k : ℕ) → k < length back → get_or back k u ≡ u → Includes (there ++ between_ends back) u
       go zero l e = includes_front there (between_ends back) u (subst (Includes there) (top (length there - 1) u (omega (arith, there_two)) ∙ e) (includes_at there (length there - 1) u (omega (arith, there_two))))
-      go (suc k) l e = elim (order (suc (suc k)) (length back)) [
+      go (suc k) l e = elim (below_or_at_least (suc (suc k)) (length back)) [
         | inl inner ↦ includes_back there (between_ends back) u (subst (Includes (between_ends back)) (middle_at k u (omega (arith, inner)) ∙ ap (λ n. get_or back n u) (omega arith) ∙ e) (includes_at (between_ends back) k u (omega (arith, inner, middle_size))))
         | inr last ↦ includes_front there (between_ends back) u (subst (Includes there) (sym (foot (suc k) u (omega (arith, last, l))) ∙ e) (includes_at there 0 u (omega (arith, there_two))))
       ]
@@ -178,7 +170,7 @@ module _ (s there back : List Pt) (positions : AllByRecursion IsPosition s) (t :
   starts : StartsFirst (there ++ between_ends back)
   starts k d k0 kn =
       subst (λ (z : Pt). Before z (get_or (there ++ between_ends back) k d)) (sym (loop.low_at 0 d (omega (arith, there_two))))
-      (elim (order k (length there)) [
+      (elim (below_or_at_least k (length there)) [
         | inl low ↦ subst (λ (z : Pt). Before (get_or there 0 d) z) (sym (loop.low_at k d low))
             (key_before (get_or there 0 d) (get_or there k d) (position there t.inside 0 d (omega (arith, there_two))) (position there t.inside k d low) (t.rises 0 k d k0 low))
         | inr high ↦ later (k - length there) high

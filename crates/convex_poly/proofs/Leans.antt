@@ -5,21 +5,16 @@ use lib.IntN.{ℤ, pos, negsuc, ◌+ℤ◌, ◌-ℤ◌, ◌*ℤ◌}
 use lib.Signed.{◌≤ℤ◌, ◌<ℤ◌}
 use Rattle.spot_terms.specs.declared.plain.Pt.{Pt}
 use Rattle.spot_terms.specs.Lists.{Includes}
-use Rattle.spot_terms.proofs.Mixes.{not_below_times}
 use Rattle.spot_terms.proofs.Products.{square_not_negative}
 use Rattle.spot_terms.proofs.Ring.{ring, Exp, var, num, ◌⊕◌, ◌⊖◌, ◌⊗◌}
 use Rattle.convex_poly.specs.Pivots.{minus, turn_of, along, IsLeftwards, AreLeftwards, LeansTo}
-use Rattle.convex_poly.proofs.Ways.{weak, above_times}
-use Rattle.convex_poly.proofs.Disjoint.{part_ok}
 use Rattle.spot_terms.proofs.ListLemmas.{includes_at}
+use Rattle.spot_terms.proofs.Orders.{below_or_here, equal_of_difference, negative_clash, not_positive_of_opposite, opposite_not_negative, opposite_of_negative, opposite_times, opposites_times, sum_not_negative, times_opposite, times_zero, zero_not_negative, zero_not_positive, zero_times, product_not_negative, factor_not_negative, positive_not_negative, product_positive}
 use Rattle.convex_poly.proofs.Places.{same_index, place_of}
 
 leftwards_turn : (v r : Pt) → IsLeftwards v r → pos 0 ≤ℤ turn_of v r
-leftwards_turn v r (inl h) = weak (turn_of v r) h
-leftwards_turn v r (inr h) = zero_ok (turn_of v r) h.0
-  where
-    zero_ok : (z : ℤ) → z ≡ pos 0 → pos 0 ≤ℤ z
-    zero_ok z e = omega (arith, ints)
+leftwards_turn v r (inl h) = positive_not_negative (turn_of v r) h
+leftwards_turn v r (inr h) = zero_not_negative (turn_of v r) h.0
 
 abbrev turn_exp : Exp → Exp → Exp → Exp → Exp
 turn_exp ax ay bx by = (ax ⊗ by) ⊖ (ay ⊗ bx)
@@ -46,19 +41,13 @@ along_by v c r =
     (along_exp (var 0) (var 1) (var 0) (var 1) ⊗ along_exp (var 2) (var 3) (var 4) (var 5))
     ((along_exp (var 0) (var 1) (var 2) (var 3) ⊗ along_exp (var 0) (var 1) (var 4) (var 5)) ⊕ (turn_exp (var 0) (var 1) (var 2) (var 3) ⊗ turn_exp (var 0) (var 1) (var 4) (var 5))) refl
 
-sum_ok : (z w : ℤ) → pos 0 ≤ℤ z → pos 0 ≤ℤ w → pos 0 ≤ℤ (z +ℤ w)
-sum_ok z w h k = omega (arith, ints)
-
 -- a way with something left of it isn't 0
 pub not_none : (v c : Pt) → IsLeftwards v c → pos 0 <ℤ along v v
 not_none v c l = by_lt_z (pos 0) (along v v) (λ h. h) (λ h. absurd (elim l [
-  | inl t ↦ clash (turn_of v c) (turn_flat v c (flat v.x v.y h) (flat v.y v.x (turned (v.x *ℤ v.x) (v.y *ℤ v.y) h))) t
-  | inr t ↦ clash (along v c) (along_flat v c (flat v.x v.y h) (flat v.y v.x (turned (v.x *ℤ v.x) (v.y *ℤ v.y) h))) t.1
+  | inl t ↦ zero_not_positive (turn_of v c) (turn_flat v c (flat v.x v.y h) (flat v.y v.x (turned (v.x *ℤ v.x) (v.y *ℤ v.y) h))) t
+  | inr t ↦ zero_not_positive (along v c) (along_flat v c (flat v.x v.y h) (flat v.y v.x (turned (v.x *ℤ v.x) (v.y *ℤ v.y) h))) t.1
 ]))
   where
-    clash : (z : ℤ) → z ≡ pos 0 → pos 0 <ℤ z → ⊥
-    clash z e h = omega (arith, ints)
-
     turned : (z w : ℤ) → (z +ℤ w) ≤ℤ pos 0 → (w +ℤ z) ≤ℤ pos 0
     turned z w h = omega (arith, ints)
 
@@ -85,19 +74,16 @@ turn_back c r = ring (c.x ∷ c.y ∷ r.x ∷ r.y ∷ []) (turn_exp (var 2) (var
 -- r is right of c, so what isn't right of c isn't right of r
 further_right : (v c r s : Pt) → IsLeftwards v c → IsLeftwards v r → IsLeftwards v s → turn_of c r <ℤ pos 0 → pos 0 ≤ℤ turn_of c s → pos 0 ≤ℤ turn_of r s
 further_right v c r s (inl h) lr ls right keep =
-    part_ok (turn_of v c) (turn_of r s) h (subst (λ z. pos 0 ≤ℤ z) (sym (four_turns v c r s))
-    (sum_ok (turn_of v r *ℤ turn_of c s) (turn_of v s *ℤ turn_of r c) (not_below_times (turn_of v r) (turn_of c s) (leftwards_turn v r lr) keep)
-    (not_below_times (turn_of v s) (turn_of r c) (leftwards_turn v s ls) (flipped (turn_of c r) (turn_of r c) (turn_back c r) right))))
+    factor_not_negative (turn_of v c) (turn_of r s) h (subst (λ z. pos 0 ≤ℤ z) (sym (four_turns v c r s))
+    (sum_not_negative (turn_of v r *ℤ turn_of c s) (turn_of v s *ℤ turn_of r c) (product_not_negative (turn_of v r) (turn_of c s) (leftwards_turn v r lr) keep)
+    (product_not_negative (turn_of v s) (turn_of r c) (leftwards_turn v s ls) (flipped (turn_of c r) (turn_of r c) (turn_back c r) right))))
   where
     flipped : (z w : ℤ) → w ≡ pos 0 -ℤ z → z <ℤ pos 0 → pos 0 ≤ℤ w
     flipped z w e h = omega (arith, ints)
 further_right v c r s (inr h) lr ls right keep =
-    absurd (clash (turn_of c r) right (part_ok (along v v) (turn_of c r) (not_none v c (inr h)) (subst (λ z. pos 0 ≤ℤ z) (sym (turn_by v c r))
-    (apart (along v c *ℤ turn_of v r) (turn_of v c) (along v r) h.0 (not_below_times (along v c) (turn_of v r) (weak (along v c) h.1) (leftwards_turn v r lr))))))
+    absurd (negative_clash (turn_of c r) right (factor_not_negative (along v v) (turn_of c r) (not_none v c (inr h)) (subst (λ z. pos 0 ≤ℤ z) (sym (turn_by v c r))
+    (apart (along v c *ℤ turn_of v r) (turn_of v c) (along v r) h.0 (product_not_negative (along v c) (turn_of v r) (positive_not_negative (along v c) h.1) (leftwards_turn v r lr))))))
   where
-    clash : (z : ℤ) → z <ℤ pos 0 → pos 0 ≤ℤ z → ⊥
-    clash z h k = omega (arith, ints)
-
     lose : (p a : ℤ) → pos 0 ≤ℤ p → pos 0 ≤ℤ (p -ℤ (pos 0 *ℤ a))
     lose p a h = omega (arith, ints)
 
@@ -111,27 +97,15 @@ module _ (v c s : Pt) (lc : IsLeftwards v c) (ls : IsLeftwards v s) (flat : turn
   turns_same : along v c *ℤ turn_of v s ≡ turn_of v c *ℤ along v s
   turns_same = both (along v c *ℤ turn_of v s) (turn_of v c *ℤ along v s) (along v v) (turn_of c s) (turn_by v c s) flat
     where
-      none : (k : ℤ) → k *ℤ pos 0 ≡ pos 0
-      none k = omega (arith, ints)
-
-      pin : (p q : ℤ) → pos 0 ≡ p -ℤ q → p ≡ q
-      pin p q e = omega (arith, ints)
-
       both : (p q k t : ℤ) → k *ℤ t ≡ p -ℤ q → t ≡ pos 0 → p ≡ q
-      both p q k t e f = pin p q (sym (none k) ∙ ap (λ z. k *ℤ z) (sym f) ∙ e)
+      both p q k t e f = equal_of_difference p q (sym (times_zero k) ∙ ap (λ z. k *ℤ z) (sym f) ∙ e)
 
   -- the products are at most 0 together
   sum_low : ((along v c *ℤ along v s) +ℤ (turn_of v c *ℤ turn_of v s)) ≤ℤ pos 0
   sum_low = subst (λ z. z ≤ℤ pos 0) (along_by v c s) (lowered (along v v) (along c s) (not_none v c lc) low)
     where
-      up : (z : ℤ) → pos 0 ≤ℤ (pos 0 -ℤ z) → z ≤ℤ pos 0
-      up z h = omega (arith, ints)
-
-      down : (z : ℤ) → z ≤ℤ pos 0 → pos 0 ≤ℤ (pos 0 -ℤ z)
-      down z h = omega (arith, ints)
-
       lowered : (k t : ℤ) → pos 0 <ℤ k → t ≤ℤ pos 0 → (k *ℤ t) ≤ℤ pos 0
-      lowered k t h g = up (k *ℤ t) (subst (λ z. pos 0 ≤ℤ z) (ring (k ∷ t ∷ []) (var 0 ⊗ (num (pos 0) ⊖ var 1)) (num (pos 0) ⊖ (var 0 ⊗ var 1)) refl) (not_below_times k (pos 0 -ℤ t) (weak k h) (down t g)))
+      lowered k t h g = not_positive_of_opposite (k *ℤ t) (subst (λ z. pos 0 ≤ℤ z) (ring (k ∷ t ∷ []) (var 0 ⊗ (num (pos 0) ⊖ var 1)) (num (pos 0) ⊖ (var 0 ⊗ var 1)) refl) (product_not_negative k (pos 0 -ℤ t) (positive_not_negative k h) (opposite_not_negative t g)))
 
   above : (p q : ℤ) → pos 0 <ℤ p → pos 0 ≤ℤ q → (p +ℤ q) ≤ℤ pos 0 → ⊥
   above p q h k l = omega (arith, ints)
@@ -141,49 +115,28 @@ module _ (v c s : Pt) (lc : IsLeftwards v c) (ls : IsLeftwards v s) (flat : turn
 
   none_left : (z w : ℤ) → z ≡ pos 0 → z *ℤ w ≡ pos 0
   none_left z w e = ap (λ u. u *ℤ w) e ∙ zero_times w
-    where
-      zero_times : (w : ℤ) → pos 0 *ℤ w ≡ pos 0
-      zero_times w = omega (arith, ints)
 
   none_right : (z w : ℤ) → w ≡ pos 0 → z *ℤ w ≡ pos 0
   none_right z w e = ap (λ u. z *ℤ u) e ∙ times_zero z
-    where
-      times_zero : (z : ℤ) → z *ℤ pos 0 ≡ pos 0
-      times_zero z = omega (arith, ints)
 
   same_zero : (p q : ℤ) → p ≡ q → pos 0 <ℤ p → q ≡ pos 0 → ⊥
   same_zero p q e h f = omega (arith, ints)
 
-  from_zero : (p : ℤ) → p ≡ pos 0 → pos 0 ≤ℤ p
-  from_zero p e = omega (arith, ints)
-
   against : IsLeftwards v c → IsLeftwards v s → ⊥
-  against (inl tc) (inl ts) = by_lt_z (along v c) (pos 0) (λ neg. both_neg neg) (λ ok. above_other (along v c *ℤ along v s) (turn_of v c *ℤ turn_of v s) (rest ok) (above_times (turn_of v c) (turn_of v s) tc ts) sum_low)
+  against (inl tc) (inl ts) = by_lt_z (along v c) (pos 0) (λ neg. both_neg neg) (λ ok. above_other (along v c *ℤ along v s) (turn_of v c *ℤ turn_of v s) (rest ok) (product_positive (turn_of v c) (turn_of v s) tc ts) sum_low)
     where
       -- along v c and along v s have one sign, since the turns have
       rest : pos 0 ≤ℤ along v c → pos 0 ≤ℤ (along v c *ℤ along v s)
-      rest ok = not_below_times (along v c) (along v s) ok (part_ok (turn_of v c) (along v s) tc (subst (λ z. pos 0 ≤ℤ z) turns_same (not_below_times (along v c) (turn_of v s) ok (weak (turn_of v s) ts))))
-
-      up : (z : ℤ) → z <ℤ pos 0 → pos 0 ≤ℤ (pos 0 -ℤ z)
-      up z h = omega (arith, ints)
-
-      flip : (z w : ℤ) → (pos 0 -ℤ z) *ℤ (pos 0 -ℤ w) ≡ z *ℤ w
-      flip z w = ring (z ∷ w ∷ []) ((num (pos 0) ⊖ var 0) ⊗ (num (pos 0) ⊖ var 1)) (var 0 ⊗ var 1) refl
-
-      out : (z w : ℤ) → (pos 0 -ℤ z) *ℤ w ≡ pos 0 -ℤ (z *ℤ w)
-      out z w = ring (z ∷ w ∷ []) ((num (pos 0) ⊖ var 0) ⊗ var 1) (num (pos 0) ⊖ (var 0 ⊗ var 1)) refl
-
-      out_right : (z w : ℤ) → z *ℤ (pos 0 -ℤ w) ≡ pos 0 -ℤ (z *ℤ w)
-      out_right z w = ring (z ∷ w ∷ []) (var 0 ⊗ (num (pos 0) ⊖ var 1)) (num (pos 0) ⊖ (var 0 ⊗ var 1)) refl
+      rest ok = product_not_negative (along v c) (along v s) ok (factor_not_negative (turn_of v c) (along v s) tc (subst (λ z. pos 0 ≤ℤ z) turns_same (product_not_negative (along v c) (turn_of v s) ok (positive_not_negative (turn_of v s) ts))))
 
       both_neg : along v c <ℤ pos 0 → ⊥
       both_neg neg =
-          let s_neg : pos 0 ≤ℤ (pos 0 -ℤ along v s) = part_ok (turn_of v c) (pos 0 -ℤ along v s) tc
-          (subst (λ z. pos 0 ≤ℤ z) (out (along v c) (turn_of v s) ∙ ap (λ z. pos 0 -ℤ z) turns_same ∙ sym (out_right (turn_of v c) (along v s))) (not_below_times (pos 0 -ℤ along v c) (turn_of v s) (up (along v c) neg) (weak (turn_of v s) ts))) in
-          above_other (along v c *ℤ along v s) (turn_of v c *ℤ turn_of v s) (subst (λ z. pos 0 ≤ℤ z) (flip (along v c) (along v s)) (not_below_times (pos 0 -ℤ along v c) (pos 0 -ℤ along v s) (up (along v c) neg) s_neg)) (above_times (turn_of v c) (turn_of v s) tc ts) sum_low
-  against (inl tc) (inr hs) = same_zero (turn_of v c *ℤ along v s) (along v c *ℤ turn_of v s) (sym turns_same) (above_times (turn_of v c) (along v s) tc hs.1) (none_right (along v c) (turn_of v s) hs.0)
-  against (inr hc) (inl ts) = same_zero (along v c *ℤ turn_of v s) (turn_of v c *ℤ along v s) turns_same (above_times (along v c) (turn_of v s) hc.1 ts) (none_left (turn_of v c) (along v s) hc.0)
-  against (inr hc) (inr hs) = above (along v c *ℤ along v s) (turn_of v c *ℤ turn_of v s) (above_times (along v c) (along v s) hc.1 hs.1) (from_zero (turn_of v c *ℤ turn_of v s) (none_left (turn_of v c) (turn_of v s) hc.0)) sum_low
+          let s_neg : pos 0 ≤ℤ (pos 0 -ℤ along v s) = factor_not_negative (turn_of v c) (pos 0 -ℤ along v s) tc
+          (subst (λ z. pos 0 ≤ℤ z) (opposite_times (along v c) (turn_of v s) ∙ ap (λ z. pos 0 -ℤ z) turns_same ∙ sym (times_opposite (turn_of v c) (along v s))) (product_not_negative (pos 0 -ℤ along v c) (turn_of v s) (opposite_of_negative (along v c) neg) (positive_not_negative (turn_of v s) ts))) in
+          above_other (along v c *ℤ along v s) (turn_of v c *ℤ turn_of v s) (subst (λ z. pos 0 ≤ℤ z) (opposites_times (along v c) (along v s)) (product_not_negative (pos 0 -ℤ along v c) (pos 0 -ℤ along v s) (opposite_of_negative (along v c) neg) s_neg)) (product_positive (turn_of v c) (turn_of v s) tc ts) sum_low
+  against (inl tc) (inr hs) = same_zero (turn_of v c *ℤ along v s) (along v c *ℤ turn_of v s) (sym turns_same) (product_positive (turn_of v c) (along v s) tc hs.1) (none_right (along v c) (turn_of v s) hs.0)
+  against (inr hc) (inl ts) = same_zero (along v c *ℤ turn_of v s) (turn_of v c *ℤ along v s) turns_same (product_positive (along v c) (turn_of v s) hc.1 ts) (none_left (turn_of v c) (along v s) hc.0)
+  against (inr hc) (inr hs) = above (along v c *ℤ along v s) (turn_of v c *ℤ turn_of v s) (product_positive (along v c) (along v s) hc.1 hs.1) (zero_not_negative (turn_of v c *ℤ turn_of v s) (none_left (turn_of v c) (turn_of v s) hc.0)) sum_low
 
 pub leans_on : (v c s : Pt) → IsLeftwards v c → IsLeftwards v s → pos 0 ≤ℤ turn_of c s → IsLeftwards c s
 leans_on v c s lc ls h = by_lt_z (pos 0) (turn_of c s) (λ k. inl k)
@@ -195,10 +148,7 @@ leans_on v c s lc ls h = by_lt_z (pos 0) (turn_of c s) (λ k. inl k)
 -- ---- the loops
 
 self_turn : (c : Pt) → pos 0 ≤ℤ turn_of c c
-self_turn c = none (turn_of c c) (ring (c.x ∷ c.y ∷ []) (turn_exp (var 0) (var 1) (var 0) (var 1)) (num (pos 0)) refl)
-  where
-    none : (z : ℤ) → z ≡ pos 0 → pos 0 ≤ℤ z
-    none z e = omega (arith, ints)
+self_turn c = zero_not_negative (turn_of c c) (ring (c.x ∷ c.y ∷ []) (turn_exp (var 0) (var 1) (var 0) (var 1)) (num (pos 0)) refl)
 
 -- the ways to p from the first i points of b
 abbrev pub FirstWays : Pt → List Pt → ℕ → Pt → Type 0
@@ -207,15 +157,12 @@ FirstWays p b i s = (k : ℕ) × (d : Pt) × (k < i) × (s ≡ minus p (get_or b
 pub leans_none : (v from p : Pt) (b : List Pt) → IsLeftwards v from → LeansTo v from from (FirstWays p b 0)
 leans_none v from p b l = record { leftwards = l; before = λ s ls h. h; others = λ s o. absurd (let k = o.2 in omega (arith, k)) }
 
-order_below : (i k : ℕ) → k < i + 1 → (k < i) ⊎ (k ≡ i)
-order_below i k h = grind arith
-
 -- one more way, which isn't right of the one so far
 pub leans_keep : (v from to p : Pt) (b : List Pt) (i : ℕ) (d next : Pt) → i < length b → next ≡ minus p (get_or b i d) → LeansTo v from to (FirstWays p b i) → pos 0 ≤ℤ turn_of to next → LeansTo v from to (FirstWays p b (i + 1))
 leans_keep v from to p b i d next inside is l h = record {
   leftwards = l.leftwards;
   before = l.before;
-  others = λ s o. elim (order_below i o.0 o.2) [
+  others = λ s o. elim (below_or_here o.0 i o.2) [
     | inl low ↦ l.others s (o.0, o.1, low, o.3)
     | inr here ↦ subst (λ (z : Pt). pos 0 ≤ℤ turn_of to z) (is ∙ ap (minus p) (sym (same_index b i o.0 o.1 d (omega (arith, here, inside)) here)) ∙ sym o.3) h
   ];
@@ -226,7 +173,7 @@ pub leans_next : (v from to p : Pt) (b : List Pt) (i : ℕ) (d next : Pt) → i 
 leans_next v from to p b i d next inside is all l h = record {
   leftwards = here;
   before = λ s ls k. further_right v to next s l.leftwards here ls h (l.before s ls k);
-  others = λ s o. elim (order_below i o.0 o.2) [
+  others = λ s o. elim (below_or_here o.0 i o.2) [
     | inl low ↦ further_right v to next s l.leftwards here (subst (IsLeftwards v) (sym o.3) (all (get_or b o.0 o.1) (includes_at b o.0 o.1 (omega (arith, low, inside))))) h (l.others s (o.0, o.1, low, o.3))
     | inr at ↦ subst (λ (z : Pt). pos 0 ≤ℤ turn_of next z) (is ∙ ap (minus p) (sym (same_index b i o.0 o.1 d (omega (arith, at, inside)) at)) ∙ sym o.3) (self_turn next)
   ];
@@ -253,7 +200,7 @@ rightmost_none v to a b l = record { leftwards = l; others = λ k d q h. absurd 
 pub rightmost_next : (v from to : Pt) (a b : List Pt) (i : ℕ) (d : Pt) → i < length a → ((p : Pt) → Includes a p → AreLeftwards v p b) → IsRightmost v from a b i → LeansTo v from to (λ s. (q : Pt) × Includes b q × (s ≡ minus (get_or a i d) q)) → IsRightmost v to a b (i + 1)
 rightmost_next v from to a b i d inside all r l = record {
   leftwards = l.leftwards;
-  others = λ k e q h j. elim (order_below i k h) [
+  others = λ k e q h j. elim (below_or_here k i h) [
     | inl low ↦ l.before (minus (get_or a k e) q) (all (get_or a k e) (includes_at a k e (omega (arith, low, inside))) q j) (r.others k e q low j)
     | inr here ↦ l.others (minus (get_or a k e) q) (q, j, ap (λ (z : Pt). minus z q) (same_index a i k e d (omega (arith, here, inside)) here))
   ];

@@ -11,25 +11,20 @@ use Rattle.spot_terms.specs.Lists.{Includes}
 use Rattle.spot_terms.specs.LanePolygons.{add_pt, sums}
 use Rattle.spot_terms.proofs.ListLemmas.{all_of, includes_at, includes_back, includes_front, includes_flat_map, includes_map}
 use Rattle.spot_terms.proofs.Members.{in_map, in_flat_map}
-use Rattle.spot_terms.proofs.Mixes.{not_below_times}
 use Rattle.spot_terms.proofs.Ring.{ring, Exp, var, num, ◌⊕◌, ◌⊖◌, ◌⊗◌}
+use Rattle.spot_terms.proofs.Orders.{below_trans, opposite_of_negative, sum_not_negative, sum_swap, product_not_negative, difference_positive, below_or_at_least, positive_not_negative}
 use Rattle.convex_poly.specs.Chains.{key, Rising, Toward}
 use Rattle.convex_poly.specs.Pivots.{minus, turn_of}
 use Rattle.convex_poly.specs.Sums.{GoesFirst, IsSide, IsSumPath}
 use Rattle.convex_poly.specs.Turns.{cross}
-use Rattle.convex_poly.proofs.Chains.{gap_above}
 use Rattle.convex_poly.proofs.ChainSteps.{all_append, toward_more}
 use Rattle.convex_poly.proofs.Corners.{pt_same}
 use Rattle.convex_poly.proofs.Crosses.{cross_exp}
-use Rattle.convex_poly.proofs.Places.{order, place_of, same_index}
+use Rattle.convex_poly.proofs.Places.{place_of, same_index}
 use Rattle.convex_poly.proofs.Sides.{middle_toward, toward_flat, toward_included}
-use Rattle.convex_poly.proofs.Ways.{weak}
 
 pub add_swap : (p q : Pt) → add_pt p q ≡ add_pt q p
-add_swap p q = pt_same (add_pt p q) (add_pt q p) (swap p.x q.x) (swap p.y q.y)
-  where
-    swap : (z w : ℤ) → z +ℤ w ≡ w +ℤ z
-    swap z w = omega (arith, ints)
+add_swap p q = pt_same (add_pt p q) (add_pt q p) (sum_swap p.x q.x) (sum_swap p.y q.y)
 
 -- ---- sides
 
@@ -77,22 +72,19 @@ not_below_part (negsuc n) (pos (suc m)) k h = absurd (omega (arith, ints))
 not_below_part (negsuc n) (pos zero) k h = absurd (omega (arith, ints))
 not_below_part (negsuc n) (negsuc m) k h = absurd (omega (arith, ints))
 
-both_not_below : (z w : ℤ) → pos 0 ≤ℤ z → pos 0 ≤ℤ w → pos 0 ≤ℤ (z +ℤ w)
-both_not_below z w h k = omega (arith, ints)
-
 -- a way that is not left of an edge is not left of the next one
 turn_on : (kx ky : ℤ) (s q p m n : Pt) → key kx ky q <ℤ key kx ky s → key kx ky p <ℤ key kx ky m → key kx ky m <ℤ key kx ky n → pos 0 ≤ℤ turn_of (minus s q) (minus m p) → pos 0 ≤ℤ cross p m n → pos 0 ≤ℤ turn_of (minus s q) (minus n m)
 turn_on kx ky s q p m n qs pm mn h turn =
-    not_below_part _ (key kx ky m -ℤ key kx ky p) (gap_above _ _ pm)
+    not_below_part _ (key kx ky m -ℤ key kx ky p) (difference_positive _ _ pm)
     (subst (λ z. pos 0 ≤ℤ z) (sym (turn_sum kx ky s q p m n))
-    (both_not_below _ _ (not_below_times _ _ h (weak _ (gap_above _ _ mn))) (not_below_times _ _ turn (weak _ (gap_above _ _ qs)))))
+    (sum_not_negative _ _ (product_not_negative _ _ h (positive_not_negative _ (difference_positive _ _ mn))) (product_not_negative _ _ turn (positive_not_negative _ (difference_positive _ _ qs)))))
 
 turn_back : (u v : Pt) → turn_of v u ≡ pos 0 -ℤ turn_of u v
 turn_back u v = ring (u.x ∷ u.y ∷ v.x ∷ v.y ∷ []) ((var 2 ⊗ var 1) ⊖ (var 3 ⊗ var 0)) (num (pos 0) ⊖ ((var 0 ⊗ var 3) ⊖ (var 1 ⊗ var 2))) refl
 
 -- two ways that are not left of a third, one after the other
 turn_joined : (p m n s q : Pt) → pos 0 ≤ℤ turn_of (minus m p) (minus s q) → pos 0 ≤ℤ turn_of (minus n m) (minus s q) → pos 0 ≤ℤ turn_of (minus n p) (minus s q)
-turn_joined p m n s q h k = subst (λ z. pos 0 ≤ℤ z) (joined p m n s q) (both_not_below _ _ h k)
+turn_joined p m n s q h k = subst (λ z. pos 0 ≤ℤ z) (joined p m n s q) (sum_not_negative _ _ h k)
   where
     joined : (p m n s q : Pt) → turn_of (minus m p) (minus s q) +ℤ turn_of (minus n m) (minus s q) ≡ turn_of (minus n p) (minus s q)
     joined p m n s q =
@@ -106,7 +98,7 @@ turn_joined p m n s q h k = subst (λ z. pos 0 ≤ℤ z) (joined p m n s q) (bot
 -- with one more point of a higher key
 rising_more : (kx ky : ℤ) (s : List Pt) (c : Pt) → Rising kx ky s → ((i : ℕ) (d : Pt) → i + 1 ≡ length s → key kx ky (get_or s i d) <ℤ key kx ky c) → Rising kx ky (s ++ c ∷ [])
 rising_more kx ky s c rises end i j d ij jn =
-    elim (order j (length s)) [
+    elim (below_or_at_least j (length s)) [
       | inl low ↦ rw (get_or-append s (c ∷ []) d i (omega arith), get_or-append s (c ∷ []) d j low) (rises i j d ij low)
       | inr high ↦
           let last : get_or (s ++ c ∷ []) j d ≡ c = last_is (omega (arith, size)) in
@@ -119,13 +111,10 @@ rising_more kx ky s c rises end i j d ij jn =
     last_is : j ≡ length s → get_or (s ++ c ∷ []) j d ≡ c
     last_is e = subst (λ n. get_or (s ++ c ∷ []) n d ≡ c) (sym e) (get_or-append_seam s c [] d)
 
-    lt_lt : (z w u : ℤ) → z <ℤ w → w <ℤ u → z <ℤ u
-    lt_lt z w u h k = omega (arith, ints)
-
     to_end : (m : ℕ) → m < length s → key kx ky (get_or s m d) <ℤ key kx ky c
     to_end m l =
-        elim (order m (length s - 1)) [
-          | inl inner ↦ lt_lt _ _ _ (rises m (length s - 1) d inner (omega arith)) (end (length s - 1) d (omega arith))
+        elim (below_or_at_least m (length s - 1)) [
+          | inl inner ↦ below_trans _ _ _ (rises m (length s - 1) d inner (omega arith)) (end (length s - 1) d (omega arith))
           | inr top ↦ end m d (omega arith)
         ]
 
@@ -189,7 +178,7 @@ module _ (kx ky : ℤ) (a b path : List Pt) (i j m : ℕ) (sa : IsSide kx ky a) 
 
   along_covers : (p q : ℕ) (d : Pt) → p ≤ m → q ≤ j → Toward ky (pos 0 -ℤ kx) (path ++ new ∷ []) (add_pt (get_or a p d) (get_or b q d))
   along_covers p q d hp hq =
-      elim (order p m) [
+      elim (below_or_at_least p m) [
         | inl low ↦ old (add_pt (get_or a p d) (get_or b q d)) (h.covers p q d (omega arith) hq)
         | inr same ↦
             let p_is : m ≡ p = omega arith in
@@ -198,7 +187,7 @@ module _ (kx ky : ℤ) (a b path : List Pt) (i j m : ℕ) (sa : IsSide kx ky a) 
     where
       at_m : m ≤ p → Toward ky (pos 0 -ℤ kx) (path ++ new ∷ []) (add_pt (get_or a m d) (get_or b q d))
       at_m same =
-          elim (order q j) [
+          elim (below_or_at_least q j) [
             | inl less ↦ over q d less
             | inr at_end ↦
                 let q_is : j ≡ q = omega arith in
@@ -212,7 +201,7 @@ module _ (kx ky : ℤ) (a b path : List Pt) (i j m : ℕ) (sa : IsSide kx ky a) 
 
   b_on : (p n : ℕ) (d : Pt) → p < m → n ≡ j + 1 → n < length b → pos 0 ≤ℤ turn_of (minus (get_or a m d) (get_or a p d)) (minus (get_or b n d) (get_or b j d))
   b_on p n d l e k =
-      elim (order p i) [
+      elim (below_or_at_least p i) [
         | inl low ↦ turn_joined (get_or a p d) (get_or a i d) (get_or a m d) (get_or b n d) (get_or b j d) (h.b_next p n d low e k) (right n d e k)
         | inr same ↦
             let p_is : i ≡ p = omega arith in
@@ -278,7 +267,7 @@ module _ (a b path : List Pt) (i j : ℕ) (h : IsPathSoFar a b path i j) (new d 
       }
     where
       more : j + 1 < length b
-      more = elim (order (j + 1) (length b)) [
+      more = elim (below_or_at_least (j + 1) (length b)) [
         | inl less ↦ less
         | inr end ↦ elim some [
           | inl a_more ↦ absurd (stays (record { more = a_more; right = λ m n e hm hn l. absurd (omega arith) }))
@@ -286,13 +275,10 @@ module _ (a b path : List Pt) (i j : ℕ) (h : IsPathSoFar a b path i j) (new d 
         ]
       ]
 
-      opposite : (z : ℤ) → z <ℤ pos 0 → pos 0 ≤ℤ (pos 0 -ℤ z)
-      opposite z l = omega (arith, ints)
-
       turned : (m n : ℕ) (e : Pt) → m ≡ i + 1 → m < length a → n ≡ j + 1 → pos 0 ≤ℤ turn_of (minus (get_or b n e) (get_or b j e)) (minus (get_or a m e) (get_or a i e))
       turned m n e hm l hn =
           by_lt_z (turn_of (minus (get_or a m e) (get_or a i e)) (minus (get_or b n e) (get_or b j e))) (pos 0)
-          (λ right. subst (λ z. pos 0 ≤ℤ z) (sym (turn_back (minus (get_or a m e) (get_or a i e)) (minus (get_or b n e) (get_or b j e)))) (opposite _ right))
+          (λ right. subst (λ z. pos 0 ≤ℤ z) (sym (turn_back (minus (get_or a m e) (get_or a i e)) (minus (get_or b n e) (get_or b j e)))) (opposite_of_negative _ right))
           (λ left. absurd (stays (record {
             more = omega (arith, l, hm);
             right = λ p q c hp hq lq.

@@ -9,6 +9,7 @@ use lib.Signed.{◌≤ℤ◌, ◌<ℤ◌, le_z}
 use borrow.Author.Differences.{true_is_le}
 use Rattle.spot_terms.specs.Reach.{InOctagon}
 use Rattle.spot_terms.specs.Whole.{Within, SizeAtMost}
+use Rattle.spot_terms.proofs.Orders.{at_most_trans}
 use Rattle.convex_poly.specs.OctRows.{HasRows, IsEastwards, IsWestwards, number}
 use Rattle.convex_poly.specs.Runs.{IsRun, IsSpanOf, pt}
 use Rattle.convex_poly.proofs.Places.{all_at}
@@ -120,10 +121,7 @@ module _ (n : List ℤ) (low high first last : ℤ) (order : low ≤ℤ high) (f
   pub oct_none : (HasRows n low high → first ≤ℤ last → ⊥) → (x : ℤ) → InBoth n low high x → ⊥
   oct_none outside x h =
       let w = within x h in
-      outside (has_of n low high x (in_row n x low h.0) (in_row n x high h.1)) (le_le first x last w.low w.high)
-    where
-      le_le : (a b c : ℤ) → a ≤ℤ b → b ≤ℤ c → a ≤ℤ c
-      le_le a b c h k = omega (arith, ints)
+      outside (has_of n low high x (in_row n x low h.0) (in_row n x high h.1)) (at_most_trans first x last w.low w.high)
 
 -- ---- two rows, whichever is lower
 

@@ -13,6 +13,7 @@ use Rattle.std.proofs.lemmas.List.{take-append-le}
 use lib.IntN.{ℤ}
 use lib.Signed.{◌≤ℤ◌}
 use Rattle.spot_terms.specs.declared.plain.Pt.{Pt}
+use Rattle.spot_terms.proofs.Orders.{at_most_trans}
 use Rattle.convex_poly.specs.Chains.{IsInOrder}
 
 x_order : (a b c d : ℤ) → is_lt (ordering_then (int_cmp a b) (int_cmp c d)) ≡ false → b ≤ℤ a
@@ -26,13 +27,10 @@ in_order p q h = record { by_x = x_order p.x q.x p.y q.y h; by_y = y_order p.x q
 
 pub in_order_on : (p q r : Pt) → IsInOrder p q → IsInOrder q r → IsInOrder p r
 in_order_on p q r a b = record {
-  by_x = le_le p.x q.x r.x a.by_x b.by_x;
-  by_y = λ e. le_le p.y q.y r.y (a.by_y (pinned p.x q.x r.x a.by_x b.by_x e)) (b.by_y (pinned_right p.x q.x r.x a.by_x b.by_x e));
+  by_x = at_most_trans p.x q.x r.x a.by_x b.by_x;
+  by_y = λ e. at_most_trans p.y q.y r.y (a.by_y (pinned p.x q.x r.x a.by_x b.by_x e)) (b.by_y (pinned_right p.x q.x r.x a.by_x b.by_x e));
 }
   where
-    le_le : (z w u : ℤ) → z ≤ℤ w → w ≤ℤ u → z ≤ℤ u
-    le_le z w u h k = omega (arith, ints)
-
     pinned : (z w u : ℤ) → z ≤ℤ w → w ≤ℤ u → z ≡ u → z ≡ w
     pinned z w u h k e = omega (arith, ints)
 

@@ -9,9 +9,10 @@ use Rattle.spot_terms.proofs.Mixes.{total}
 use Rattle.convex_poly.specs.Pivots.{turn_of, along, IsLeftwards, IsPivot}
 use Rattle.spot_terms.proofs.Ring.{ring, var, num, ◌⊕◌, ◌⊖◌, ◌⊗◌}
 use Rattle.spot_terms.proofs.Mixes.{mix_more, mix_to, mix_included, not_below_times}
-use Rattle.convex_poly.proofs.Ways.{Meets0, Rel, turns_rel, flat_rel, meets_of, is_zero, zero_part, weak, rel_line}
+use Rattle.convex_poly.proofs.Ways.{Meets0, Rel, turns_rel, flat_rel, meets_of, zero_part, rel_line}
 use Rattle.spot_terms.proofs.Products.{square_not_negative}
 use Rattle.spot_terms.specs.Hull.{weighted}
+use Rattle.spot_terms.proofs.Orders.{opposite_not_negative, opposite_of_negative, sum_not_negative, zero_not_negative, zero_not_positive, is_zero, positive_not_negative}
 
 -- ---- with a pivot, 0 is outside
 
@@ -40,20 +41,14 @@ record Leaning (p : Pt) (ws : List ℕ) (vs : List Pt) : Type 0 where
   rises : weighted (turn_of p) ws vs ≡ pos 0 → (0 < total ws vs → pos 0 <ℤ weighted (along p) ws vs) × (pos 0 ≤ℤ weighted (along p) ws vs)
 
 turn_ok : (p r : Pt) → IsLeftwards p r → pos 0 ≤ℤ turn_of p r
-turn_ok p r (inl h) = weak (turn_of p r) h
-turn_ok p r (inr h) = same (turn_of p r) h.0
-  where
-    same : (z : ℤ) → z ≡ pos 0 → pos 0 ≤ℤ z
-    same z e = omega (arith, ints)
-
-sum_ok : (s t : ℤ) → pos 0 ≤ℤ s → pos 0 ≤ℤ t → pos 0 ≤ℤ (s +ℤ t)
-sum_ok s t h k = omega (arith, ints)
+turn_ok p r (inl h) = positive_not_negative (turn_of p r) h
+turn_ok p r (inr h) = zero_not_negative (turn_of p r) h.0
 
 lean : (p : Pt) (ws : List ℕ) (vs : List Pt) → ((r : Pt) → Includes vs r → IsLeftwards p r) → Leaning p ws vs
 lean p [] vs all = record { turns = omega (arith, ints); rises = λ e. (λ h. absurd (omega (arith, h)), omega (arith, ints)) }
 lean p (w ∷ ws) [] all = record { turns = omega (arith, ints); rises = λ e. (λ h. absurd (omega (arith, h)), omega (arith, ints)) }
 lean p (w ∷ ws) (v ∷ vs) all = let k = lean p ws vs (λ r i. all r (inr i)) in let here = all v (inl refl) in record {
-  turns = sum_ok _ _ (not_below_times (pos w) (turn_of p v) (omega (arith, ints)) (turn_ok p v here)) k.turns;
+  turns = sum_not_negative _ _ (not_below_times (pos w) (turn_of p v) (omega (arith, ints)) (turn_ok p v here)) k.turns;
   rises = λ e. go w (turn_of p v) (along p v) (weighted (turn_of p) ws vs) (weighted (along p) ws vs) (total ws vs) here k.turns k.rises e;
 }
   where
@@ -73,16 +68,13 @@ pivot_apart vs p all m =
     let k = lean p m.mix.weights vs all in
     let e : weighted (turn_of p) m.mix.weights vs ≡ pos 0 = turn_weighted p m.mix.weights vs ∙ ap (λ z. (p.x *ℤ z) -ℤ (p.y *ℤ weighted (λ v. v.x) m.mix.weights vs)) m.mix.at_y ∙ ap (λ z. (p.x *ℤ pos 0) -ℤ (p.y *ℤ z)) m.mix.at_x ∙ none (p.x) (p.y) in
     let f : weighted (along p) m.mix.weights vs ≡ pos 0 = along_weighted p m.mix.weights vs ∙ ap (λ z. (p.x *ℤ z) +ℤ (p.y *ℤ weighted (λ v. v.y) m.mix.weights vs)) m.mix.at_x ∙ ap (λ z. (p.x *ℤ pos 0) +ℤ (p.y *ℤ z)) m.mix.at_y ∙ some (p.x) (p.y) in
-    clash (weighted (along p) m.mix.weights vs) f ((k.rises e).0 (positive (total m.mix.weights vs) m.n m.mix.at_w m.some))
+    zero_not_positive (weighted (along p) m.mix.weights vs) f ((k.rises e).0 (positive (total m.mix.weights vs) m.n m.mix.at_w m.some))
   where
     none : (x y : ℤ) → (x *ℤ pos 0) -ℤ (y *ℤ pos 0) ≡ pos 0
     none x y = omega (arith, ints)
 
     some : (x y : ℤ) → (x *ℤ pos 0) +ℤ (y *ℤ pos 0) ≡ pos 0
     some x y = omega (arith, ints)
-
-    clash : (z : ℤ) → z ≡ pos 0 → pos 0 <ℤ z → ⊥
-    clash z e h = omega (arith, ints)
 
     positive : (s n : ℕ) → s ≡ n → 0 < n → 0 < s
     positive s n e h = omega arith
@@ -106,15 +98,12 @@ against vs p r ip ir z h =
     signs : (s t : ℤ) → s ≤ℤ pos 0 → pos 0 ≤ℤ t → (t ≡ pos 0 → ⊥) → pos 0 <ℤ (((pos 0 -ℤ s) +ℤ (pos 0 -ℤ (pos 0 -ℤ t))) +ℤ (pos 0 -ℤ pos 0))
     signs s t h k nz = by_lt_z (pos 0) t (λ g. omega (arith, ints)) (λ g. absurd (nz (omega (arith, ints))))
 
-    up : (s : ℤ) → s ≤ℤ pos 0 → pos 0 ≤ℤ (pos 0 -ℤ s)
-    up s h = omega (arith, ints)
-
     twice : (s : ℤ) → pos 0 ≤ℤ s → pos 0 ≤ℤ (pos 0 -ℤ (pos 0 -ℤ s))
     twice s h = omega (arith, ints)
 
     go : (along p p ≡ pos 0 → ⊥) → Meets0 vs
-    go nz = let k : pos 0 ≤ℤ along p p = sum_ok (p.x *ℤ p.x) (p.y *ℤ p.y) (square_not_negative p.x) (square_not_negative p.y) in
-        meets_of vs p r r (pos 0 -ℤ along p r) (pos 0 -ℤ (pos 0 -ℤ along p p)) (pos 0 -ℤ pos 0) ip ir ir flipped (up (along p r) h) (twice (along p p) k) (omega (arith, ints)) (signs (along p r) (along p p) h k nz)
+    go nz = let k : pos 0 ≤ℤ along p p = sum_not_negative (p.x *ℤ p.x) (p.y *ℤ p.y) (square_not_negative p.x) (square_not_negative p.y) in
+        meets_of vs p r r (pos 0 -ℤ along p r) (pos 0 -ℤ (pos 0 -ℤ along p p)) (pos 0 -ℤ pos 0) ip ir ir flipped (opposite_not_negative (along p r) h) (twice (along p p) k) (omega (arith, ints)) (signs (along p r) (along p p) h k nz)
 
 turn_back : (p r : Pt) → turn_of r p ≡ pos 0 -ℤ turn_of p r
 turn_back p r = ring (p.x ∷ p.y ∷ r.x ∷ r.y ∷ []) ((var 2 ⊗ var 1) ⊖ (var 3 ⊗ var 0)) (num (pos 0) ⊖ ((var 0 ⊗ var 3) ⊖ (var 1 ⊗ var 2))) refl
@@ -125,12 +114,9 @@ round vs p r s ip ir is1 h k m =
     let e = turns_rel p r s in
     meets_of vs p r s (pos 0 -ℤ turn_of r s) (pos 0 -ℤ turn_of s p) (pos 0 -ℤ turn_of p r) ip ir is1
     (record { x = rel_line (turn_of r s) (turn_of s p) (turn_of p r) p.x r.x s.x e.x; y = rel_line (turn_of r s) (turn_of s p) (turn_of p r) p.y r.y s.y e.y })
-    (up (turn_of r s) k) (subst (λ z. pos 0 ≤ℤ (pos 0 -ℤ z)) (sym (turn_back p s)) (twice (turn_of p s) m)) (up (turn_of p r) h)
+    (opposite_of_negative (turn_of r s) k) (subst (λ z. pos 0 ≤ℤ (pos 0 -ℤ z)) (sym (turn_back p s)) (twice (turn_of p s) m)) (opposite_of_negative (turn_of p r) h)
     (subst (λ z. pos 0 <ℤ (((pos 0 -ℤ turn_of r s) +ℤ (pos 0 -ℤ z)) +ℤ (pos 0 -ℤ turn_of p r))) (sym (turn_back p s)) (sum (turn_of r s) (turn_of p s) (turn_of p r) k m h))
   where
-    up : (s : ℤ) → s <ℤ pos 0 → pos 0 ≤ℤ (pos 0 -ℤ s)
-    up s h = omega (arith, ints)
-
     twice : (s : ℤ) → pos 0 ≤ℤ s → pos 0 ≤ℤ (pos 0 -ℤ (pos 0 -ℤ s))
     twice s h = omega (arith, ints)
 

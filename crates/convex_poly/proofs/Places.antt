@@ -2,6 +2,7 @@
 use Rattle.std.proofs.Common.{◌≡◌, ℕ, zero, suc, ◌+◌, ◌≤◌, ◌<◌, arith, refl, sym, subst, List, [], ◌∷◌, length, get_or, ◌⊎◌, inl, inr}
 use Rattle.std.specs.List.{AllByRecursion}
 use Rattle.spot_terms.specs.Lists.{Includes}
+use Rattle.spot_terms.proofs.Orders.{below_or_here}
 
 -- a read within a list is one read, whatever stands for a read past the end
 pub same_index : {X : Type 0} (vs : List X) (i k : ℕ) (d e : X) → k < length vs → k ≡ i → get_or vs k d ≡ get_or vs i e
@@ -36,15 +37,9 @@ compare3 k i f g h = elim (dec k i) [ inl l ↦ f l | inr m ↦ elim m [ inl e �
     dec : (k i : ℕ) → (k < i) ⊎ ((k ≡ i) ⊎ (i < k))
     dec k i = grind arith
 
-pub order : (a b : ℕ) → (a < b) ⊎ (b ≤ a)
-order a b = grind arith
-
-last_or_below : (k i : ℕ) → k < i + 1 → (k < i) ⊎ (k ≡ i)
-last_or_below k i h = grind arith
-
 -- what holds of the items below place i, and of the one at i, holds below i + 1
 pub below_and_here : {X : Type 0} (P : X → Type 0) (xs : List X) (i : ℕ) (d : X) → i < length xs → ((k : ℕ) (e : X) → k < i → P (get_or xs k e)) → P (get_or xs i d) → (k : ℕ) (e : X) → k < i + 1 → P (get_or xs k e)
-below_and_here P xs i d inside below here k e l = elim (last_or_below k i l) [
+below_and_here P xs i d inside below here k e l = elim (below_or_here k i l) [
   | inl low ↦ below k e low
   | inr same ↦ subst P (sym (same_index xs i k e d (omega (arith, same, inside)) same)) here
 ]

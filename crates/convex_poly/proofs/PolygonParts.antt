@@ -11,6 +11,7 @@ use Rattle.spot_terms.specs.Hull.{Before, IsCornerList}
 use Rattle.spot_terms.specs.Lists.{Includes}
 use Rattle.spot_terms.proofs.ListLemmas.{includes_at, includes_itself}
 use Rattle.spot_terms.proofs.Ring.{ring, num, var, ◌⊖◌}
+use Rattle.spot_terms.proofs.Orders.{asymmetric, opposite_negative, below_or_at_least}
 use Rattle.convex_poly.specs.Chains.{key, HasMeetingEnds, Rising}
 use Rattle.convex_poly.specs.Polygons.{IsPosition}
 use Rattle.convex_poly.specs.Sums.{IsOver, IsPart, IsSide, IsTop}
@@ -20,33 +21,24 @@ use Rattle.convex_poly.proofs.ChainSteps.{all_take}
 use Rattle.convex_poly.proofs.Corners.{origin}
 use Rattle.convex_poly.proofs.Crosses.{cross_exp}
 use Rattle.convex_poly.proofs.HullCorners.{before_key, far}
-use Rattle.convex_poly.proofs.Places.{all_at, all_by_index, order, place_of}
+use Rattle.convex_poly.proofs.Places.{all_at, all_by_index, place_of}
 use Rattle.convex_poly.proofs.Tops.{first_before, left_of_edge, rank_up, turns_at_first}
 
 -- ---- turns the other way round
 turn_middle : (a b c : Pt) → pos 0 <ℤ cross a c b → cross a b c ≤ℤ pos 0
-turn_middle a b c h = subst (λ z. z ≤ℤ pos 0) (sym (swap a b c)) (below _ h)
+turn_middle a b c h = subst (λ z. z ≤ℤ pos 0) (sym (swap a b c)) (opposite_negative _ h)
   where
     swap : (a b c : Pt) → cross a b c ≡ pos 0 -ℤ cross a c b
     swap a b c = ring (a.x ∷ a.y ∷ b.x ∷ b.y ∷ c.x ∷ c.y ∷ []) (cross_exp (var 0) (var 1) (var 2) (var 3) (var 4) (var 5)) (num (pos 0) ⊖ cross_exp (var 0) (var 1) (var 4) (var 5) (var 2) (var 3)) refl
 
-    below : (z : ℤ) → pos 0 <ℤ z → (pos 0 -ℤ z) ≤ℤ pos 0
-    below z h = omega (arith, ints)
-
 turn_back : (a b c : Pt) → pos 0 <ℤ cross c b a → cross a b c ≤ℤ pos 0
-turn_back a b c h = subst (λ z. z ≤ℤ pos 0) (sym (swap a b c)) (below _ h)
+turn_back a b c h = subst (λ z. z ≤ℤ pos 0) (sym (swap a b c)) (opposite_negative _ h)
   where
     swap : (a b c : Pt) → cross a b c ≡ pos 0 -ℤ cross c b a
     swap a b c = ring (a.x ∷ a.y ∷ b.x ∷ b.y ∷ c.x ∷ c.y ∷ []) (cross_exp (var 0) (var 1) (var 2) (var 3) (var 4) (var 5)) (num (pos 0) ⊖ cross_exp (var 4) (var 5) (var 2) (var 3) (var 0) (var 1)) refl
 
-    below : (z : ℤ) → pos 0 <ℤ z → (pos 0 -ℤ z) ≤ℤ pos 0
-    below z h = omega (arith, ints)
-
 clash : (p q : Pt) → IsPosition p → IsPosition q → Before p q → Before q p → ⊥
-clash p q hp hq a b = against _ _ (before_key p q hp hq a) (before_key q p hq hp b)
-  where
-    against : (z w : ℤ) → z <ℤ w → w <ℤ z → ⊥
-    against z w h k = omega (arith, ints)
+clash p q hp hq a b = asymmetric _ _ (before_key p q hp hq a) (before_key q p hq hp b)
 
 -- ---- the two parts
 
@@ -101,7 +93,7 @@ module _ (vs : List Pt) (positions : AllByRecursion IsPosition vs) (convex : IsC
       i_is = omega (arith, there_size, e)
 
       by : (m : ℕ) → m < length vs → get_or vs m d ≡ q → Includes (take (k + 1) vs) q ⊎ IsOver far (pos 1) (get_or (take (k + 1) vs) 0 d) (get_or (take (k + 1) vs) i d) q
-      by m l is = elim (order m (k + 1)) [
+      by m l is = elim (below_or_at_least m (k + 1)) [
         | inl low ↦ inl (subst (Includes (take (k + 1) vs)) (there_at m d low ∙ is) (includes_at (take (k + 1) vs) m d (omega (arith, there_size, low))))
         | inr high ↦ inr (
             rw (there_at 0 d (omega arith), there_at i d (omega (arith, i_is)), i_is, ← is)
@@ -114,7 +106,7 @@ module _ (vs : List Pt) (positions : AllByRecursion IsPosition vs) (convex : IsC
       ]
         where
           some : (m : ℕ) → k + 1 ≤ m → m < length vs → 0 < k
-          some m high l = elim (order 0 k) [
+          some m high l = elim (below_or_at_least 0 k) [
             | inl above ↦ above
             | inr none ↦
                 let k_is : k ≡ 0 = omega arith in
@@ -132,7 +124,7 @@ module _ (vs : List Pt) (positions : AllByRecursion IsPosition vs) (convex : IsC
   module _ (r : List Pt) (k0 : 0 < k) (size : length r + k ≡ length vs + 1) (low_at : (i j : ℕ) (d : Pt) → j ≡ k + i → j < length vs → get_or r i d ≡ get_or vs j d) (end_at : (i : ℕ) (d : Pt) → k + i ≡ length vs → get_or r i d ≡ get_or vs 0 d) where
     back_rises : Rising (pos 0 -ℤ far) (pos 0 -ℤ pos 1) r
     back_rises i j d ij l =
-        elim (order (k + j) (length vs)) [
+        elim (below_or_at_least (k + j) (length vs)) [
           | inl low ↦
               rw (low_at i (k + i) d refl (omega arith), low_at j (k + j) d refl low)
               (down (k + i) (k + j) d (omega arith) low (top.down (k + i) (k + j) d (omega arith) (omega arith) low))
@@ -143,7 +135,7 @@ module _ (vs : List Pt) (positions : AllByRecursion IsPosition vs) (convex : IsC
 
     back_turns : (i j m : ℕ) (d : Pt) → j ≡ i + 1 → m ≡ i + 2 → m < length r → pos 0 ≤ℤ cross (get_or r i d) (get_or r j d) (get_or r m d)
     back_turns i j m d hj hm l =
-        elim (order (k + m) (length vs)) [
+        elim (below_or_at_least (k + m) (length vs)) [
           | inl low ↦
               rw (low_at i (k + i) d refl (omega arith), low_at j (k + j) d refl (omega arith), low_at m (k + m) d refl low)
               (left_of_edge vs positions convex (k + i) (k + j) (k + m) d (omega arith) (omega arith) low)
@@ -154,7 +146,7 @@ module _ (vs : List Pt) (positions : AllByRecursion IsPosition vs) (convex : IsC
 
     back_inside : AllByRecursion (Includes vs) r
     back_inside = all_by_index (Includes vs) r (λ i d l.
-        elim (order (k + i) (length vs)) [
+        elim (below_or_at_least (k + i) (length vs)) [
           | inl low ↦ subst (Includes vs) (sym (low_at i (k + i) d refl low)) (includes_at vs (k + i) d low)
           | inr high ↦ subst (Includes vs) (sym (end_at i d (omega (arith, size)))) (includes_at vs 0 d (omega (arith, size)))
         ])
@@ -164,7 +156,7 @@ module _ (vs : List Pt) (positions : AllByRecursion IsPosition vs) (convex : IsC
       where
         by : (m : ℕ) → m < length vs → get_or vs m d ≡ q → Includes r q ⊎ IsOver (pos 0 -ℤ far) (pos 0 -ℤ pos 1) (get_or r 0 d) (get_or r i d) q
         by zero l is = inl (subst (Includes r) (end_at i d (omega (arith, size)) ∙ is) (includes_at r i d (omega arith)))
-        by (suc m) l is = elim (order (suc m) k) [
+        by (suc m) l is = elim (below_or_at_least (suc m) k) [
           | inr high ↦ inl (subst (Includes r) (low_at (suc m - k) (suc m) d (omega arith) l ∙ is) (includes_at r (suc m - k) d (omega (arith, size))))
           | inl low ↦ inr (
               rw (low_at 0 k d (omega arith) top.within, end_at i d (omega (arith, size)), ← is)
@@ -188,7 +180,7 @@ module _ (vs : List Pt) (positions : AllByRecursion IsPosition vs) (convex : IsC
 
   one_of_none : k ≡ 0 → length vs ≡ 1
   one_of_none e =
-      elim (order 1 (length vs)) [
+      elim (below_or_at_least 1 (length vs)) [
         | inl many ↦ absurd (clash (get_or vs 0 origin) (get_or vs 1 origin) (all_at IsPosition vs 0 origin positions (omega arith)) (all_at IsPosition vs 1 origin positions many)
             (first_before vs positions convex 1 origin (omega arith) many)
             (top.down 0 1 origin (omega arith) (omega arith) many))
@@ -211,7 +203,7 @@ module _ (vs : List Pt) (positions : AllByRecursion IsPosition vs) (convex : IsC
   -- what is true of the part there and the part back
   pub parts : (r : List Pt) → (k ≡ 0 → r ≡ vs) → (0 < k → r ≡ drop k vs ++ take 1 vs) → AreParts vs (take (k + 1) vs) r
   parts r one more =
-      elim (order 0 k) [
+      elim (below_or_at_least 0 k) [
         | inl many ↦
             let size = many_size many in
             let low = many_low many in

@@ -7,9 +7,10 @@ use Rattle.spot_terms.specs.declared.plain.Pt.{Pt}
 use Rattle.spot_terms.specs.Hull.{weighted}
 use Rattle.spot_terms.specs.Lists.{Includes}
 use Rattle.spot_terms.proofs.Ring.{ring, var, num, ◌⊕◌, ◌⊖◌, ◌⊗◌}
-use Rattle.spot_terms.proofs.Mixes.{total, mix_more, mix_to, mix_included, not_below_times}
+use Rattle.spot_terms.proofs.Mixes.{total, mix_more, mix_to, mix_included}
+use Rattle.spot_terms.proofs.Orders.{opposite_positive, opposite_times, opposites_times, zero_of_opposite, product_not_negative, is_zero, positive_not_negative, product_positive}
 use Rattle.convex_poly.specs.Pivots.{turn_of, along}
-use Rattle.convex_poly.proofs.Ways.{Meets0, Rel, meets_of, rel_line, is_zero, zero_part, turns_rel, flat_rel, weak, above_times}
+use Rattle.convex_poly.proofs.Ways.{Meets0, Rel, meets_of, rel_line, zero_part, turns_rel, flat_rel}
 
 -- (X, Y) / W, moved towards 0, is on the segment between two points of the list
 pub record Short (vs : List Pt) (W X Y : ℤ) : Type 0 where
@@ -89,8 +90,8 @@ drop_line a A b B c C u v r K X h g =
 drop_far : (a A b B c C K W : ℤ) → pos 0 ≤ℤ a → A <ℤ pos 0 → pos 0 ≤ℤ ((A +ℤ B) +ℤ C) → (K *ℤ W) ≤ℤ ((a +ℤ b) +ℤ c)
     → (((pos 0 -ℤ A) *ℤ K) *ℤ W) ≤ℤ (det a A b B +ℤ det a A c C)
 drop_far a A b B c C K W h n s f =
-    let p : pos 0 ≤ℤ (a *ℤ ((A +ℤ B) +ℤ C)) = not_below_times a ((A +ℤ B) +ℤ C) h s in
-    let q : pos 0 ≤ℤ ((pos 0 -ℤ A) *ℤ (((a +ℤ b) +ℤ c) -ℤ (K *ℤ W))) = not_below_times (pos 0 -ℤ A) (((a +ℤ b) +ℤ c) -ℤ (K *ℤ W)) (omega (arith, ints)) (omega (arith, ints)) in
+    let p : pos 0 ≤ℤ (a *ℤ ((A +ℤ B) +ℤ C)) = product_not_negative a ((A +ℤ B) +ℤ C) h s in
+    let q : pos 0 ≤ℤ ((pos 0 -ℤ A) *ℤ (((a +ℤ b) +ℤ c) -ℤ (K *ℤ W))) = product_not_negative (pos 0 -ℤ A) (((a +ℤ b) +ℤ c) -ℤ (K *ℤ W)) (omega (arith, ints)) (omega (arith, ints)) in
     let i : (det a A b B +ℤ det a A c C) -ℤ (((pos 0 -ℤ A) *ℤ K) *ℤ W) ≡ (a *ℤ ((A +ℤ B) +ℤ C)) +ℤ ((pos 0 -ℤ A) *ℤ (((a +ℤ b) +ℤ c) -ℤ (K *ℤ W)))
     = ring (a ∷ A ∷ b ∷ B ∷ c ∷ C ∷ K ∷ W ∷ [])
     ((((var 0 ⊗ var 3) ⊖ (var 1 ⊗ var 2)) ⊕ ((var 0 ⊗ var 5) ⊖ (var 1 ⊗ var 4))) ⊖ (((num (pos 0) ⊖ var 1) ⊗ var 6) ⊗ var 7))
@@ -113,7 +114,7 @@ drop_first vs u v r A B C a b c K W X Y i j e s n t db dc = record {
   v_in = j;
   a_ok = db;
   b_ok = dc;
-  k_ok = above_times (pos 0 -ℤ A) K (omega (arith, ints)) s.k_ok;
+  k_ok = product_positive (pos 0 -ℤ A) K (omega (arith, ints)) s.k_ok;
   x = drop_line a A b B c C u.x v.x r.x K X e.x s.x;
   y = drop_line a A b B c C u.y v.y r.y K Y e.y s.y;
   far = drop_far a A b B c C K W s.a_ok n t s.far;
@@ -121,20 +122,13 @@ drop_first vs u v r A B C a b c K W X Y i j e s n t db dc = record {
 
 -- ---- which of the three can be dropped
 
--- signs
-times_flip : (a b : ℤ) → (pos 0 -ℤ a) *ℤ b ≡ pos 0 -ℤ (a *ℤ b)
-times_flip a b = ring (a ∷ b ∷ []) ((num (pos 0) ⊖ var 0) ⊗ var 1) (num (pos 0) ⊖ (var 0 ⊗ var 1)) refl
-
-times_flips : (a b : ℤ) → (pos 0 -ℤ a) *ℤ (pos 0 -ℤ b) ≡ a *ℤ b
-times_flips a b = ring (a ∷ b ∷ []) ((num (pos 0) ⊖ var 0) ⊗ (num (pos 0) ⊖ var 1)) (var 0 ⊗ var 1) refl
-
 above_by : (Y d Z p X q : ℤ) → Y <ℤ pos 0 → Z <ℤ pos 0 → X <ℤ pos 0 → pos 0 <ℤ p → pos 0 ≤ℤ q → Y *ℤ d ≡ (Z *ℤ p) +ℤ (X *ℤ q) → pos 0 <ℤ d
 above_by Y d Z p X q hy hz hx hp hq e =
     by_lt_z (pos 0) d (λ h. h) (λ h.
-    let f : pos 0 ≤ℤ ((pos 0 -ℤ Y) *ℤ (pos 0 -ℤ d)) = not_below_times (pos 0 -ℤ Y) (pos 0 -ℤ d) (omega (arith, ints)) (omega (arith, ints)) in
-    let g : pos 0 <ℤ ((pos 0 -ℤ Z) *ℤ p) = above_times (pos 0 -ℤ Z) p (omega (arith, ints)) hp in
-    let k : pos 0 ≤ℤ ((pos 0 -ℤ X) *ℤ q) = not_below_times (pos 0 -ℤ X) q (omega (arith, ints)) hq in
-    absurd (clash (Y *ℤ d) (Z *ℤ p) (X *ℤ q) e (subst (λ z. pos 0 ≤ℤ z) (times_flips Y d) f) (subst (λ z. pos 0 <ℤ z) (times_flip Z p) g) (subst (λ z. pos 0 ≤ℤ z) (times_flip X q) k)))
+    let f : pos 0 ≤ℤ ((pos 0 -ℤ Y) *ℤ (pos 0 -ℤ d)) = product_not_negative (pos 0 -ℤ Y) (pos 0 -ℤ d) (omega (arith, ints)) (omega (arith, ints)) in
+    let g : pos 0 <ℤ ((pos 0 -ℤ Z) *ℤ p) = product_positive (pos 0 -ℤ Z) p (omega (arith, ints)) hp in
+    let k : pos 0 ≤ℤ ((pos 0 -ℤ X) *ℤ q) = product_not_negative (pos 0 -ℤ X) q (omega (arith, ints)) hq in
+    absurd (clash (Y *ℤ d) (Z *ℤ p) (X *ℤ q) e (subst (λ z. pos 0 ≤ℤ z) (opposites_times Y d) f) (subst (λ z. pos 0 <ℤ z) (opposite_times Z p) g) (subst (λ z. pos 0 ≤ℤ z) (opposite_times X q) k)))
   where
     clash : (s t r : ℤ) → s ≡ t +ℤ r → pos 0 ≤ℤ s → pos 0 <ℤ (pos 0 -ℤ t) → pos 0 ≤ℤ (pos 0 -ℤ r) → ⊥
     clash s t r e h k m = omega (arith, ints)
@@ -149,10 +143,7 @@ det_above : (x X y Y z Z : ℤ) → X <ℤ pos 0 → Y <ℤ pos 0 → Z <ℤ pos
 det_above x X y Y z Z hx hy hz h k = above_by Y (det x X z Z) Z (det x X y Y) X (det y Y z Z) hy hz hx h k (det_chain x X y Y z Z)
 
 det_back : (x X y Y : ℤ) → det x X y Y <ℤ pos 0 → pos 0 <ℤ det y Y x X
-det_back x X y Y h = subst (λ z. pos 0 <ℤ z) (ring (x ∷ X ∷ y ∷ Y ∷ []) (num (pos 0) ⊖ ((var 0 ⊗ var 3) ⊖ (var 1 ⊗ var 2))) ((var 2 ⊗ var 1) ⊖ (var 3 ⊗ var 0)) refl) (flip (det x X y Y) h)
-  where
-    flip : (z : ℤ) → z <ℤ pos 0 → pos 0 <ℤ (pos 0 -ℤ z)
-    flip z h = omega (arith, ints)
+det_back x X y Y h = subst (λ z. pos 0 <ℤ z) (ring (x ∷ X ∷ y ∷ Y ∷ []) (num (pos 0) ⊖ ((var 0 ⊗ var 3) ⊖ (var 1 ⊗ var 2))) ((var 2 ⊗ var 1) ⊖ (var 3 ⊗ var 0)) refl) (opposite_positive (det x X y Y) h)
 
 clash0 : (x X y Y : ℤ) → pos 0 ≤ℤ det x X y Y → pos 0 <ℤ det y Y x X → ⊥
 clash0 x X y Y h k = both (det x X y Y) (det y Y x X) (ring (x ∷ X ∷ y ∷ Y ∷ []) ((var 0 ⊗ var 3) ⊖ (var 1 ⊗ var 2)) (num (pos 0) ⊖ ((var 2 ⊗ var 1) ⊖ (var 3 ⊗ var 0))) refl) h k
@@ -163,9 +154,9 @@ clash0 x X y Y h k = both (det x X y Y) (det y Y x X) (ring (x ∷ X ∷ y ∷ Y
 second_below : (x X y Y : ℤ) → pos 0 ≤ℤ x → X <ℤ pos 0 → pos 0 ≤ℤ y → det x X y Y <ℤ pos 0 → Y <ℤ pos 0
 second_below x X y Y hx hX hy h =
     by_lt_z Y (pos 0) (λ k. k) (λ k.
-    let f : pos 0 ≤ℤ (x *ℤ Y) = not_below_times x Y hx k in
-    let g : pos 0 ≤ℤ ((pos 0 -ℤ X) *ℤ y) = not_below_times (pos 0 -ℤ X) y (omega (arith, ints)) hy in
-    absurd (clash (x *ℤ Y) (X *ℤ y) f (subst (λ z. pos 0 ≤ℤ z) (times_flip X y) g) h))
+    let f : pos 0 ≤ℤ (x *ℤ Y) = product_not_negative x Y hx k in
+    let g : pos 0 ≤ℤ ((pos 0 -ℤ X) *ℤ y) = product_not_negative (pos 0 -ℤ X) y (omega (arith, ints)) hy in
+    absurd (clash (x *ℤ Y) (X *ℤ y) f (subst (λ z. pos 0 ≤ℤ z) (opposite_times X y) g) h))
   where
     clash : (s t : ℤ) → pos 0 ≤ℤ s → pos 0 ≤ℤ (pos 0 -ℤ t) → (s -ℤ t) <ℤ pos 0 → ⊥
     clash s t h k m = omega (arith, ints)
@@ -184,14 +175,14 @@ with_first vs u v r A B C a b c K W X Y iu iv ir e s n t =
     (λ l. let nb : B <ℤ pos 0 = second_below a A b B s.a_ok n s.b_ok l in
     by_lt_z (det b B c C) (pos 0)
     (λ m. let nc : C <ℤ pos 0 = second_below b B c C s.b_ok nb s.c_ok m in
-    drop_c nc (weak _ (det_above c C b B a A nc nb n (det_back b B c C m) (weak _ (det_back a A b B l)))) (weak _ (det_back b B c C m)))
-    (λ m. drop_b nb (weak _ (det_back a A b B l)) m))
+    drop_c nc (positive_not_negative _ (det_above c C b B a A nc nb n (det_back b B c C m) (positive_not_negative _ (det_back a A b B l)))) (positive_not_negative _ (det_back b B c C m)))
+    (λ m. drop_b nb (positive_not_negative _ (det_back a A b B l)) m))
     (λ l. by_lt_z (det a A c C) (pos 0)
     (λ m. let nc : C <ℤ pos 0 = second_below a A c C s.a_ok n s.c_ok m in
     by_lt_z (det c C b B) (pos 0)
     (λ o. let nb : B <ℤ pos 0 = second_below c C b B s.c_ok nc s.b_ok o in
-    absurd (clash0 a A b B l (det_above b B c C a A nb nc n (det_back c C b B o) (weak _ (det_back a A c C m)))))
-    (λ o. drop_c nc (weak _ (det_back a A c C m)) o))
+    absurd (clash0 a A b B l (det_above b B c C a A nb nc n (det_back c C b B o) (positive_not_negative _ (det_back a A c C m)))))
+    (λ o. drop_c nc (positive_not_negative _ (det_back a A c C m)) o))
     (λ m. drop_first vs u v r A B C a b c K W X Y iv ir e s n t l m))
   where
     drop_b : B <ℤ pos 0 → pos 0 ≤ℤ det b B a A → pos 0 ≤ℤ det b B c C → Short vs W X Y
@@ -222,11 +213,8 @@ from_rel vs u v r A B C a b c K W X Y iu iv ir e s nz =
     by_lt_z ((A +ℤ B) +ℤ C) (pos 0)
     (λ n. signed_rel vs u v r (pos 0 -ℤ A) (pos 0 -ℤ B) (pos 0 -ℤ C) a b c K W X Y iu iv ir
     (record { x = rel_line A B C u.x v.x r.x e.x; y = rel_line A B C u.y v.y r.y e.y }) s
-    (λ h k m. nz (back A h) (back B k) (back C m)) (omega (arith, ints)))
+    (λ h k m. nz (zero_of_opposite A h) (zero_of_opposite B k) (zero_of_opposite C m)) (omega (arith, ints)))
     (λ t. signed_rel vs u v r A B C a b c K W X Y iu iv ir e s nz t)
-  where
-    back : (z : ℤ) → pos 0 -ℤ z ≡ pos 0 → z ≡ pos 0
-    back z h = omega (arith, ints)
 
 -- weighted points of three, moved towards 0, are weighted points of two, or 0 is in the hull
 three : (vs : List Pt) (u v r : Pt) (a b c K W X Y : ℤ) → Includes vs u → Includes vs v → Includes vs r → Sum3 u v r a b c K W X Y → Short vs W X Y ⊎ Meets0 vs
@@ -234,14 +222,11 @@ three vs u v r a b c K W X Y iu iv ir s =
     elim (is_zero (turn_of u v)) [
       | inr nz ↦ from_rel vs u v r (turn_of v r) (turn_of r u) (turn_of u v) a b c K W X Y iu iv ir (turns_rel u v r) s (λ h k m. nz m)
       | inl z ↦ elim (is_zero (along u u)) [
-        | inr nz ↦ from_rel vs u v r (along u v) (pos 0 -ℤ along u u) (pos 0) a b c K W X Y iu iv ir (flat_rel u v r z) s (λ h k m. nz (back (along u u) k))
+        | inr nz ↦ from_rel vs u v r (along u v) (pos 0 -ℤ along u u) (pos 0) a b c K W X Y iu iv ir (flat_rel u v r z) s (λ h k m. nz (zero_of_opposite (along u u) k))
         | inl o ↦ inr (record { n = 1; some = omega arith; mix = mix_to vs _ _ _ _ _ _ refl (zero_part u.x u.y o) (zero_part u.y u.x (other (u.x *ℤ u.x) (u.y *ℤ u.y) o)) (mix_included vs u iu) })
       ]
     ]
   where
-    back : (z : ℤ) → pos 0 -ℤ z ≡ pos 0 → z ≡ pos 0
-    back z h = omega (arith, ints)
-
     other : (s t : ℤ) → s +ℤ t ≡ pos 0 → t +ℤ s ≡ pos 0
     other s t h = omega (arith, ints)
 
@@ -296,7 +281,7 @@ ray (w ∷ ws) (r ∷ vs) h = go (total ws vs) refl (λ k. ray ws vs k)
       | inl s ↦ three (r ∷ vs) s.u s.v r s.a s.b (s.k *ℤ pos w) s.k (pos (w + total ws vs)) _ _ (inr s.u_in) (inr s.v_in) (inl refl) (record {
         a_ok = s.a_ok;
         b_ok = s.b_ok;
-        c_ok = not_below_times s.k (pos w) (weak s.k s.k_ok) (omega (arith, ints));
+        c_ok = product_not_negative s.k (pos w) (positive_not_negative s.k s.k_ok) (omega (arith, ints));
         k_ok = s.k_ok;
         x = more_line s.a s.b s.k s.u.x s.v.x r.x (weighted (λ v. v.x) ws vs) (pos w) s.x;
         y = more_line s.a s.b s.k s.u.y s.v.y r.y (weighted (λ v. v.y) ws vs) (pos w) s.y;

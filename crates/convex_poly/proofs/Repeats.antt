@@ -11,7 +11,8 @@ use Rattle.spot_terms.specs.Lists.{Includes}
 use Rattle.spot_terms.specs.Hull.{Before}
 use Rattle.convex_poly.specs.Chains.{IsInOrder, IsOrdered}
 use Rattle.spot_terms.proofs.ListLemmas.{includes_at, includes_back, includes_front}
-use Rattle.convex_poly.proofs.Places.{same_index, all_by_index, order}
+use Rattle.spot_terms.proofs.Orders.{antisymmetric, at_most_below, below_or_here, below_or_at_least}
+use Rattle.convex_poly.proofs.Places.{same_index, all_by_index}
 use Rattle.convex_poly.proofs.Corners.{pt_same}
 use Rattle.convex_poly.proofs.ChainSteps.{all_append}
 
@@ -40,44 +41,29 @@ kept_none points = record {
 strict : (a b : Pt) → IsInOrder a b → (a ≡ b → ⊥) → Before a b
 strict a b h n =
     by_lt_z a.x b.x (λ less. inl less)
-    (λ back. let e : a.x ≡ b.x = pin a.x b.x h.by_x back in
-    by_lt_z a.y b.y (λ less. inr (e, less)) (λ high. absurd (n (pt_same a b e (pin a.y b.y (h.by_y e) high)))))
-  where
-    pin : (z w : ℤ) → z ≤ℤ w → w ≤ℤ z → z ≡ w
-    pin z w h k = omega (arith, ints)
+    (λ back. let e : a.x ≡ b.x = antisymmetric a.x b.x h.by_x back in
+    by_lt_z a.y b.y (λ less. inr (e, less)) (λ high. absurd (n (pt_same a b e (antisymmetric a.y b.y (h.by_y e) high)))))
 
 later : (a b c : Pt) → IsInOrder a b → Before b c → Before a c
-later a b c h (inl k) = inl (le_lt a.x b.x c.x h.by_x k)
-  where
-    le_lt : (z w u : ℤ) → z ≤ℤ w → w <ℤ u → z <ℤ u
-    le_lt z w u h k = omega (arith, ints)
-later a b c h (inr k) = by_lt_z a.x b.x (λ less. inl (subst (λ z. a.x <ℤ z) k.0 less)) (λ back. let e : a.x ≡ b.x = pin a.x b.x h.by_x back in inr (e ∙ k.0, le_lt a.y b.y c.y (h.by_y e) k.1))
-  where
-    le_lt : (z w u : ℤ) → z ≤ℤ w → w <ℤ u → z <ℤ u
-    le_lt z w u h k = omega (arith, ints)
-
-    pin : (z w : ℤ) → z ≤ℤ w → w ≤ℤ z → z ≡ w
-    pin z w h k = omega (arith, ints)
-
-below_next : (i k : ℕ) → k < i + 1 → (k < i) ⊎ (k ≡ i)
-below_next i k h = grind arith
+later a b c h (inl k) = inl (at_most_below a.x b.x c.x h.by_x k)
+later a b c h (inr k) = by_lt_z a.x b.x (λ less. inl (subst (λ z. a.x <ℤ z) k.0 less)) (λ back. let e : a.x ≡ b.x = antisymmetric a.x b.x h.by_x back in inr (e ∙ k.0, at_most_below a.y b.y c.y (h.by_y e) k.1))
 
 -- one more point that is not the one before it
 pub kept_push : (points kept new : List Pt) (i : ℕ) (e : Pt) → i < length points → AreInOrder points → IsKept points kept i → ((0 < i) → get_or points (i - 1) e ≡ get_or points i e → ⊥) → new ≡ kept ++ get_or points i e ∷ [] → IsKept points new (i + 1)
 kept_push points kept new i e inside in_order h differs is = subst (λ z. IsKept points z (i + 1)) (sym is) (record {
   few = omega (arith, size, h.few);
-  ordered = λ a b d ab bn. elim (order b (length kept)) [
+  ordered = λ a b d ab bn. elim (below_or_at_least b (length kept)) [
     | inl low ↦ subst (λ z. Before z (get_or (kept ++ next ∷ []) b d)) (sym (get_or-append kept (next ∷ []) d a (omega arith)))
         (subst (λ z. Before (get_or kept a d) z) (sym (get_or-append kept (next ∷ []) d b low)) (h.ordered a b d ab low))
     | inr high ↦ subst (λ z. Before z (get_or (kept ++ next ∷ []) b d)) (sym (get_or-append kept (next ∷ []) d a (omega (arith, size))))
         (subst (λ z. Before (get_or kept a d) z) (sym (last_at b d (omega (arith, size, high, bn)))) (before_next a d (omega (arith, size))))
   ];
   among = all_append (Includes points) kept (next ∷ []) h.among (includes_at points i e inside, tt);
-  early = λ k d l. elim (order k (length kept)) [
+  early = λ k d l. elim (below_or_at_least k (length kept)) [
     | inl low ↦ let (j, m, f) = h.early k d low in (j, omega (arith, m), f ∙ sym (get_or-append kept (next ∷ []) d k low))
     | inr high ↦ (i, omega arith, same_index points i i d e inside refl ∙ sym (last_at k d (omega (arith, size, high, l))))
   ];
-  all = λ k d l. elim (below_next i k l) [
+  all = λ k d l. elim (below_or_here k i l) [
     | inl low ↦ includes_front kept (next ∷ []) (get_or points k d) (h.all k d low)
     | inr here ↦ includes_back kept (next ∷ []) (get_or points k d) (inl (same_index points i k d e (omega (arith, here, inside)) here))
   ];
@@ -98,7 +84,7 @@ kept_push points kept new i e inside in_order h differs is = subst (λ z. IsKept
         let some : 0 < i = omega (arith, m) in
         let step : Before (get_or points (i - 1) e) (get_or points i e) = strict (get_or points (i - 1) e) (get_or points i e) (in_order (i - 1) i e (omega (arith, some)) inside) (differs some) in
         subst (λ z. Before z (get_or points i e)) (same_index points j j e d (omega (arith, m, inside)) refl ∙ f)
-        (elim (order j (i - 1)) [
+        (elim (below_or_at_least j (i - 1)) [
           | inl less ↦ later (get_or points j e) (get_or points (i - 1) e) (get_or points i e) (in_order j (i - 1) e less (omega (arith, inside))) step
           | inr at ↦ subst (λ n. Before (get_or points n e) (get_or points i e)) (omega (arith, at, m)) step
         ])
@@ -110,7 +96,7 @@ kept_skip points kept i e inside h some same = record {
   ordered = h.ordered;
   among = h.among;
   early = λ k d l. let (j, m, f) = h.early k d l in (j, omega (arith, m), f);
-  all = λ k d l. elim (below_next i k l) [
+  all = λ k d l. elim (below_or_here k i l) [
     | inl low ↦ h.all k d low
     | inr here ↦ subst (Includes kept) (same ∙ sym (same_index points i k d e (omega (arith, here, inside)) here)) (h.all (i - 1) e (omega (arith, some)))
   ];

@@ -9,7 +9,6 @@ use Rattle.spot_terms.specs.declared.plain.Pt.{Pt}
 use Rattle.spot_terms.specs.Whole.{Within}
 use Rattle.spot_terms.specs.Hull.{InHull, Before}
 use Rattle.spot_terms.proofs.Hulls.{hull_x_at_most, hull_x_at_least, hull_y_at_most, hull_y_at_least}
-use Rattle.spot_terms.proofs.Mixes.{not_below_times}
 use Rattle.convex_poly.specs.Polygons.{IsPolygon, IsPosition}
 use Rattle.convex_poly.specs.Turns.{cross, IsOn}
 use Rattle.convex_poly.specs.Runs.{IsSpanOf, IsRun, IsSpan, IsInRows, AreLeft, IsBetween, IsBoxed, IsPlace, IsStart, pt}
@@ -17,51 +16,28 @@ use Rattle.convex_poly.proofs.Crosses.{cross_swap}
 use Rattle.convex_poly.proofs.Corners.{pt_same, one_corner, one_corner_back, on_in_hull, left_in_hull, hull_edges_left, hull_closing_left}
 use Rattle.convex_poly.proofs.Places.{all_map, same_index}
 use Rattle.spot_terms.proofs.Ring.{ring, var, ◌⊖◌, ◌⊗◌}
+use Rattle.spot_terms.proofs.Orders.{antisymmetric, below_or_at_least, difference_across, difference_not_negative, equal_at_least, equal_at_most, reflexive, sum_not_negative, weaken, zero_by_signs, product_not_negative}
 use Rattle.convex_poly.proofs.RunSteps.{IsNarrowed, run_same}
 
 -- ---- one and two corners
 
 before_x : (a b : Pt) → Before a b → a.x ≤ℤ b.x
-before_x a b (inl h) = weak a.x b.x h
-  where
-    weak : (z w : ℤ) → z <ℤ w → z ≤ℤ w
-    weak z w h = omega (arith, ints)
-before_x a b (inr h) = same a.x b.x h.0
-  where
-    same : (z w : ℤ) → z ≡ w → z ≤ℤ w
-    same z w h = omega (arith, ints)
-
-self : (z : ℤ) → z ≤ℤ z
-self z = omega (arith, ints)
+before_x a b (inl h) = weaken a.x b.x h
+before_x a b (inr h) = equal_at_most a.x b.x h.0
 
 two_between : (a b q : Pt) → InHull (a ∷ b ∷ []) q → IsBetween a.y b.y q.y
 two_between a b q h = by_lt_z a.y b.y
-    (λ up. inl (record { low = hull_y_at_least a.y (a ∷ b ∷ []) q (self a.y, (weak a.y b.y up, tt)) h; high = hull_y_at_most b.y (a ∷ b ∷ []) q (weak a.y b.y up, (self b.y, tt)) h }))
-    (λ down. inr (record { low = hull_y_at_least b.y (a ∷ b ∷ []) q (down, (self b.y, tt)) h; high = hull_y_at_most a.y (a ∷ b ∷ []) q (self a.y, (down, tt)) h }))
-  where
-    weak : (z w : ℤ) → z <ℤ w → z ≤ℤ w
-    weak z w h = omega (arith, ints)
+    (λ up. inl (record { low = hull_y_at_least a.y (a ∷ b ∷ []) q (reflexive a.y, (weaken a.y b.y up, tt)) h; high = hull_y_at_most b.y (a ∷ b ∷ []) q (weaken a.y b.y up, (reflexive b.y, tt)) h }))
+    (λ down. inr (record { low = hull_y_at_least b.y (a ∷ b ∷ []) q (down, (reflexive b.y, tt)) h; high = hull_y_at_most a.y (a ∷ b ∷ []) q (reflexive a.y, (down, tt)) h }))
 
 two_within : (a b q : Pt) → Before a b → InHull (a ∷ b ∷ []) q → Within a.x b.x q.x
-two_within a b q o h = record { low = hull_x_at_least a.x (a ∷ b ∷ []) q (self a.x, (before_x a b o, tt)) h; high = hull_x_at_most b.x (a ∷ b ∷ []) q (before_x a b o, (self b.x, tt)) h }
+two_within a b q o h = record { low = hull_x_at_least a.x (a ∷ b ∷ []) q (reflexive a.x, (before_x a b o, tt)) h; high = hull_x_at_most b.x (a ∷ b ∷ []) q (before_x a b o, (reflexive b.x, tt)) h }
 
 -- products of numbers of one sign
 same_sign : (s t y : ℤ) → IsBetween s t y → pos 0 ≤ℤ ((t -ℤ s) *ℤ (y -ℤ s))
-same_sign s t y (inl w) = not_below_times (t -ℤ s) (y -ℤ s) (apart s y t w.low w.high) (gap s y w.low)
+same_sign s t y (inl w) = product_not_negative (t -ℤ s) (y -ℤ s) (difference_across s y t w.low w.high) (difference_not_negative s y w.low)
+same_sign s t y (inr w) = subst (λ z. pos 0 ≤ℤ z) (flip s t y) (product_not_negative (s -ℤ t) (s -ℤ y) (difference_across t y s w.low w.high) (difference_not_negative y s w.high))
   where
-    gap : (a b : ℤ) → a ≤ℤ b → pos 0 ≤ℤ (b -ℤ a)
-    gap a b h = omega (arith, ints)
-
-    apart : (a b c : ℤ) → a ≤ℤ b → b ≤ℤ c → pos 0 ≤ℤ (c -ℤ a)
-    apart a b c h k = omega (arith, ints)
-same_sign s t y (inr w) = subst (λ z. pos 0 ≤ℤ z) (flip s t y) (not_below_times (s -ℤ t) (s -ℤ y) (apart t y s w.low w.high) (gap y s w.high))
-  where
-    gap : (a b : ℤ) → a ≤ℤ b → pos 0 ≤ℤ (b -ℤ a)
-    gap a b h = omega (arith, ints)
-
-    apart : (a b c : ℤ) → a ≤ℤ b → b ≤ℤ c → pos 0 ≤ℤ (c -ℤ a)
-    apart a b c h k = omega (arith, ints)
-
     flip : (s t y : ℤ) → (s -ℤ t) *ℤ (s -ℤ y) ≡ (t -ℤ s) *ℤ (y -ℤ s)
     flip s t y = ring (s ∷ t ∷ y ∷ []) ((var 0 ⊖ var 1) ⊗ (var 0 ⊖ var 2)) ((var 1 ⊖ var 0) ⊗ (var 2 ⊖ var 0)) refl
 
@@ -71,37 +47,22 @@ between_turned s t y (inr w) = inl w
 
 on_of_box : (a b q : Pt) → Within a.x b.x q.x → IsBetween a.y b.y q.y → pos 0 ≤ℤ cross a b q → pos 0 ≤ℤ cross b a q → IsOn a b q
 on_of_box a b q wide tall left back = record {
-  straight = pinned (cross a b q) left (subst (λ z. pos 0 ≤ℤ z) (cross_swap b a q) back);
-  from_a = sum_ok ((b.x -ℤ a.x) *ℤ (q.x -ℤ a.x)) ((b.y -ℤ a.y) *ℤ (q.y -ℤ a.y)) (same_sign a.x b.x q.x (inl wide)) (same_sign a.y b.y q.y tall);
-  from_b = sum_ok ((a.x -ℤ b.x) *ℤ (q.x -ℤ b.x)) ((a.y -ℤ b.y) *ℤ (q.y -ℤ b.y)) (same_sign b.x a.x q.x (inr wide)) (same_sign b.y a.y q.y (between_turned a.y b.y q.y tall));
+  straight = zero_by_signs (cross a b q) left (subst (λ z. pos 0 ≤ℤ z) (cross_swap b a q) back);
+  from_a = sum_not_negative ((b.x -ℤ a.x) *ℤ (q.x -ℤ a.x)) ((b.y -ℤ a.y) *ℤ (q.y -ℤ a.y)) (same_sign a.x b.x q.x (inl wide)) (same_sign a.y b.y q.y tall);
+  from_b = sum_not_negative ((a.x -ℤ b.x) *ℤ (q.x -ℤ b.x)) ((a.y -ℤ b.y) *ℤ (q.y -ℤ b.y)) (same_sign b.x a.x q.x (inr wide)) (same_sign b.y a.y q.y (between_turned a.y b.y q.y tall));
 }
-  where
-    pinned : (z : ℤ) → pos 0 ≤ℤ z → pos 0 ≤ℤ (pos 0 -ℤ z) → z ≡ pos 0
-    pinned z h k = omega (arith, ints)
-
-    sum_ok : (z w : ℤ) → pos 0 ≤ℤ z → pos 0 ≤ℤ w → pos 0 ≤ℤ (z +ℤ w)
-    sum_ok z w h k = omega (arith, ints)
 
 one_of_box : (a : Pt) (x y : ℤ) → Within a.x a.x x → IsBetween a.y a.y y → InHull (a ∷ []) (pt x y)
-one_of_box a x y wide tall = one_corner_back a (pt x y) (pt_same a (pt x y) (pin a.x x wide.low wide.high) (level tall))
+one_of_box a x y wide tall = one_corner_back a (pt x y) (pt_same a (pt x y) (antisymmetric a.x x wide.low wide.high) (level tall))
   where
-    pin : (z w : ℤ) → z ≤ℤ w → w ≤ℤ z → z ≡ w
-    pin z w h k = omega (arith, ints)
-
     level : IsBetween a.y a.y y → a.y ≡ y
-    level (inl w) = pin a.y y w.low w.high
-    level (inr w) = pin a.y y w.low w.high
+    level (inl w) = antisymmetric a.y y w.low w.high
+    level (inr w) = antisymmetric a.y y w.low w.high
 
 one_box : (a : Pt) (x y : ℤ) → InHull (a ∷ []) (pt x y) → Within a.x a.x x × IsBetween a.y a.y y
 one_box a x y h =
     let e : a ≡ pt x y = one_corner a (pt x y) h in
-    (record { low = at_most a.x x (ap (λ (p : Pt). p.x) e); high = at_least a.x x (ap (λ (p : Pt). p.x) e) }, inl (record { low = at_most a.y y (ap (λ (p : Pt). p.y) e); high = at_least a.y y (ap (λ (p : Pt). p.y) e) }))
-  where
-    at_most : (z w : ℤ) → z ≡ w → z ≤ℤ w
-    at_most z w e = omega (arith, ints)
-
-    at_least : (z w : ℤ) → z ≡ w → w ≤ℤ z
-    at_least z w e = omega (arith, ints)
+    (record { low = equal_at_most a.x x (ap (λ (p : Pt). p.x) e); high = equal_at_least a.x x (ap (λ (p : Pt). p.x) e) }, inl (record { low = equal_at_most a.y y (ap (λ (p : Pt). p.y) e); high = equal_at_least a.y y (ap (λ (p : Pt). p.y) e) }))
 
 -- ---- the span to start with
 
@@ -207,19 +168,16 @@ no_edges vs y0 y1 span h = record { ordered = h.ordered; exact = λ x. ((λ s. (
 pub span_of : (vs : List Pt) (y0 y1 : ℤ) (i : ℕ) (span : ℤ × ℤ) → IsPolygon vs → IsSpanOf (IsSoFar vs y0 y1 i) span → IsSpan span
 span_of vs y0 y1 i span p h = record {
   ordered = h.ordered;
-  first = size_of_place span.0 (start_place vs y0 y1 span.0 p ((h.exact span.0).1 (record { low = self span.0; high = h.ordered })).0);
-  last = size_of_place span.1 (start_place vs y0 y1 span.1 p ((h.exact span.1).1 (record { low = h.ordered; high = self span.1 })).0);
+  first = size_of_place span.0 (start_place vs y0 y1 span.0 p ((h.exact span.0).1 (record { low = reflexive span.0; high = h.ordered })).0);
+  last = size_of_place span.1 (start_place vs y0 y1 span.1 p ((h.exact span.1).1 (record { low = h.ordered; high = reflexive span.1 })).0);
 }
 
 one_more : (vs : List Pt) (y0 y1 x : ℤ) (i : ℕ) (d : Pt) → 1 ≤ i → i < length vs → RowsLeft vs y0 y1 i x → AreLeft (get_or vs (i - 1) d) (get_or vs i d) y0 y1 x → RowsLeft vs y0 y1 (i + 1) x
-one_more vs y0 y1 x i d some inside h here m n e f l = elim (order3 n i) [
+one_more vs y0 y1 x i d some inside h here m n e f l = elim (below_or_at_least n i) [
   | inl low ↦ h m n e f low
   | inr high ↦ subst (λ (z : Pt). AreLeft z (get_or vs n e) y0 y1 x) (sym (same_index vs (i - 1) m e d (omega (arith, f, l, inside)) (omega (arith, f, l, high))))
       (subst (λ (z : Pt). AreLeft (get_or vs (i - 1) d) z y0 y1 x) (sym (same_index vs i n e d (omega (arith, l, inside)) (omega (arith, l, high)))) here)
 ]
-  where
-    order3 : (a b : ℕ) → (a < b) ⊎ (b ≤ a)
-    order3 a b = grind arith
 
 pub edge_more : (vs : List Pt) (y0 y1 : ℤ) (i : ℕ) (d : Pt) (span new : ℤ × ℤ) → 1 ≤ i → i < length vs → IsSpanOf (IsSoFar vs y0 y1 i) span → IsSpanOf (IsNarrowed span.0 span.1 (get_or vs (i - 1) d) (get_or vs i d) y0 y1) new → IsSpanOf (IsSoFar vs y0 y1 (i + 1)) new
 edge_more vs y0 y1 i d span new some inside h k = record {

@@ -11,28 +11,23 @@ use Rattle.spot_terms.specs.Whole.{Within, quotient_floor}
 use Rattle.spot_terms.proofs.Products.{scaled_order}
 use Rattle.spot_terms.proofs.Quotients.{below_factor, product_le_at, next_product_gt_at}
 use Rattle.spot_terms.proofs.Ring.{ring, var, num, ◌⊖◌, ◌⊗◌}
+use Rattle.spot_terms.proofs.Orders.{at_most_of_difference, at_most_trans, below_next, below_not_at_least, difference_across, negative_clash}
 use Rattle.convex_poly.specs.Turns.{cross}
 use Rattle.convex_poly.specs.Runs.{IsSpanOf, IsRun, IsQuotient, AreLeft, pt}
 
 -- ---- quotients
 
 times_le : (rise z w room : ℤ) → pos 0 <ℤ rise → z ≤ℤ w → (rise *ℤ w) ≤ℤ room → (rise *ℤ z) ≤ℤ room
-times_le (pos n) z w room h l k = le_le (pos n *ℤ z) (pos n *ℤ w) room (scaled_order n z w l) k
-  where
-    le_le : (a b c : ℤ) → a ≤ℤ b → b ≤ℤ c → a ≤ℤ c
-    le_le a b c h k = omega (arith, ints)
+times_le (pos n) z w room h l k = at_most_trans (pos n *ℤ z) (pos n *ℤ w) room (scaled_order n z w l) k
 times_le (negsuc n) z w room h l k = absurd (omega (arith, ints))
 
 -- the product is at most room exactly for numbers up to the quotient
 pub up_to_quotient : (room rise q z : ℤ) → pos 0 <ℤ rise → IsQuotient room rise q → ((rise *ℤ z) ≤ℤ room) ↔ (z ≤ℤ q)
 up_to_quotient room rise q z h u = (
-  (λ k. last z q (below_factor z (q +ℤ pos 1) rise h (le_lt (z *ℤ rise) (rise *ℤ z) room ((q +ℤ pos 1) *ℤ rise) (turn z rise) k u.high))),
+  (λ k. below_next z q (below_factor z (q +ℤ pos 1) rise h (le_lt (z *ℤ rise) (rise *ℤ z) room ((q +ℤ pos 1) *ℤ rise) (turn z rise) k u.high))),
   (λ k. times_le rise z q room h k (turned (rise *ℤ q) (q *ℤ rise) room (turn rise q) u.low)),
 )
   where
-    last : (z q : ℤ) → z <ℤ (q +ℤ pos 1) → z ≤ℤ q
-    last z q h = omega (arith, ints)
-
     turn : (a b : ℤ) → a *ℤ b ≡ b *ℤ a
     turn a b = omega (arith, ints)
 
@@ -69,11 +64,8 @@ lowered_keep lo hi from room rise o h k = record {
 -- the quotient's end is below the span's
 pub lowered_below : (hi from room rise q : ℤ) → pos 0 <ℤ rise → IsQuotient room rise q → room <ℤ (rise *ℤ (hi -ℤ from)) → (from +ℤ q) <ℤ hi
 lowered_below hi from room rise q h u k =
-    by_lt_z (from +ℤ q) hi (λ l. l) (λ l. absurd (clash (rise *ℤ (hi -ℤ from)) room k ((up_to_quotient room rise q (hi -ℤ from) h u).1 (shift l))))
+    by_lt_z (from +ℤ q) hi (λ l. l) (λ l. absurd (below_not_at_least room (rise *ℤ (hi -ℤ from)) k ((up_to_quotient room rise q (hi -ℤ from) h u).1 (shift l))))
   where
-    clash : (z w : ℤ) → w <ℤ z → z ≤ℤ w → ⊥
-    clash z w h k = omega (arith, ints)
-
     shift : hi ≤ℤ (from +ℤ q) → (hi -ℤ from) ≤ℤ q
     shift h = omega (arith, ints)
 
@@ -115,11 +107,8 @@ raised_keep lo hi from room fall o h k = record {
 
 pub raised_above : (lo from room fall q : ℤ) → pos 0 <ℤ fall → IsQuotient room fall q → room <ℤ (fall *ℤ (from -ℤ lo)) → lo <ℤ (from -ℤ q)
 raised_above lo from room fall q h u k =
-    by_lt_z lo (from -ℤ q) (λ l. l) (λ l. absurd (clash (fall *ℤ (from -ℤ lo)) room k ((up_to_quotient room fall q (from -ℤ lo) h u).1 (shift l))))
+    by_lt_z lo (from -ℤ q) (λ l. l) (λ l. absurd (below_not_at_least room (fall *ℤ (from -ℤ lo)) k ((up_to_quotient room fall q (from -ℤ lo) h u).1 (shift l))))
   where
-    clash : (z w : ℤ) → w <ℤ z → z ≤ℤ w → ⊥
-    clash z w h k = omega (arith, ints)
-
     shift : (from -ℤ q) ≤ℤ lo → (from -ℤ lo) ≤ℤ q
     shift h = omega (arith, ints)
 
@@ -163,18 +152,12 @@ row_cross a b x y = refl
 pub left_of_room : (a b : Pt) (y0 y1 x r s m : ℤ) → r ≡ (b.x -ℤ a.x) *ℤ (y0 -ℤ a.y) → s ≡ (b.x -ℤ a.x) *ℤ (y1 -ℤ a.y) → m ≡ int_min r s → (((b.y -ℤ a.y) *ℤ (x -ℤ a.x)) ≤ℤ m) ↔ AreLeft a b y0 y1 x
 left_of_room a b y0 y1 x r s m er es em =
     let w = min_of r s m em in (
-      (λ h. (subst (λ z. pos 0 ≤ℤ (z -ℤ ((b.y -ℤ a.y) *ℤ (x -ℤ a.x)))) er (apart ((b.y -ℤ a.y) *ℤ (x -ℤ a.x)) m r h w.0), subst (λ z. pos 0 ≤ℤ (z -ℤ ((b.y -ℤ a.y) *ℤ (x -ℤ a.x)))) es (apart ((b.y -ℤ a.y) *ℤ (x -ℤ a.x)) m s h w.1.0))),
+      (λ h. (subst (λ z. pos 0 ≤ℤ (z -ℤ ((b.y -ℤ a.y) *ℤ (x -ℤ a.x)))) er (difference_across ((b.y -ℤ a.y) *ℤ (x -ℤ a.x)) m r h w.0), subst (λ z. pos 0 ≤ℤ (z -ℤ ((b.y -ℤ a.y) *ℤ (x -ℤ a.x)))) es (difference_across ((b.y -ℤ a.y) *ℤ (x -ℤ a.x)) m s h w.1.0))),
       (λ l. elim w.1.1 [
-        | inl e ↦ subst (λ z. ((b.y -ℤ a.y) *ℤ (x -ℤ a.x)) ≤ℤ z) (sym (e ∙ er)) (under ((b.y -ℤ a.y) *ℤ (x -ℤ a.x)) ((b.x -ℤ a.x) *ℤ (y0 -ℤ a.y)) l.0)
-        | inr e ↦ subst (λ z. ((b.y -ℤ a.y) *ℤ (x -ℤ a.x)) ≤ℤ z) (sym (e ∙ es)) (under ((b.y -ℤ a.y) *ℤ (x -ℤ a.x)) ((b.x -ℤ a.x) *ℤ (y1 -ℤ a.y)) l.1)
+        | inl e ↦ subst (λ z. ((b.y -ℤ a.y) *ℤ (x -ℤ a.x)) ≤ℤ z) (sym (e ∙ er)) (at_most_of_difference ((b.y -ℤ a.y) *ℤ (x -ℤ a.x)) ((b.x -ℤ a.x) *ℤ (y0 -ℤ a.y)) l.0)
+        | inr e ↦ subst (λ z. ((b.y -ℤ a.y) *ℤ (x -ℤ a.x)) ≤ℤ z) (sym (e ∙ es)) (at_most_of_difference ((b.y -ℤ a.y) *ℤ (x -ℤ a.x)) ((b.x -ℤ a.x) *ℤ (y1 -ℤ a.y)) l.1)
       ]),
     )
-  where
-    apart : (z m r : ℤ) → z ≤ℤ m → m ≤ℤ r → pos 0 ≤ℤ (r -ℤ z)
-    apart z m r h k = omega (arith, ints)
-
-    under : (z r : ℤ) → pos 0 ≤ℤ (r -ℤ z) → z ≤ℤ r
-    under z r h = omega (arith, ints)
 
 abbrev pub IsNarrowed : ℤ → ℤ → Pt → Pt → ℤ → ℤ → ℤ → Type 0
 IsNarrowed lo hi a b y0 y1 x = Within lo hi x × AreLeft a b y0 y1 x
@@ -200,7 +183,4 @@ module _ (lo hi : ℤ) (a b : Pt) (y0 y1 r s m : ℤ) (er : r ≡ (b.x -ℤ a.x)
   level_keep e o h = record { ordered = o; exact = λ x. ((λ p. p.0), (λ w. (w, (left_of_room a b y0 y1 x r s m er es em).0 (subst (λ z. z ≤ℤ m) (sym (level x e)) h)))) }
 
   pub level_none : a.y ≡ b.y → m <ℤ pos 0 → (x : ℤ) → IsNarrowed lo hi a b y0 y1 x → ⊥
-  level_none e h x p = clash m h (subst (λ z. z ≤ℤ m) (level x e) ((left_of_room a b y0 y1 x r s m er es em).1 p.1))
-    where
-      clash : (m : ℤ) → m <ℤ pos 0 → pos 0 ≤ℤ m → ⊥
-      clash m h k = omega (arith, ints)
+  level_none e h x p = negative_clash m h (subst (λ z. z ≤ℤ m) (level x e) ((left_of_room a b y0 y1 x r s m er es em).1 p.1))

@@ -12,6 +12,7 @@ use Rattle.spot_terms.proofs.Ring.{ring, Exp, var, num, ◌⊕◌, ◌⊖◌, �
 use Rattle.spot_terms.proofs.Mixes.{Mix}
 use Rattle.spot_terms.proofs.Mixes.{total, mix_none, mix_add, mix_scale, mix_to, mix_included, positive_times}
 use Rattle.spot_terms.proofs.Hulls.{mix_hull, hull_mix_at, mix_hull_at}
+use Rattle.spot_terms.proofs.Orders.{difference_of_below, natural_of, opposite_not_negative}
 use Rattle.convex_poly.proofs.Places.{all_map}
 use Rattle.convex_poly.specs.Chains.{key, Toward}
 
@@ -142,18 +143,8 @@ mixed_both_sides gx gy hx hy vs q ex ey a b = pick a.t b.t refl refl
 -- a corner that does not turn left is on the side of its neighbours
 mixed_middle_toward : (kx ky : ℤ) (vs : List Pt) (a b c : Pt) → Includes vs a → Includes vs c → key kx ky a <ℤ key kx ky b → key kx ky b <ℤ key kx ky c → cross a b c ≤ℤ pos 0 → TowardMix ky (pos 0 -ℤ kx) vs b
 mixed_middle_toward kx ky vs a b c hasA hasC ab bc turn =
-    by_nat (nat_of (key kx ky c -ℤ key kx ky b) (gap _ _ bc)) (nat_of (key kx ky b -ℤ key kx ky a) (gap _ _ ab)) (nat_of (pos 0 -ℤ cross a b c) (turned _ turn))
+    by_nat (natural_of (key kx ky c -ℤ key kx ky b) (difference_of_below _ _ bc)) (natural_of (key kx ky b -ℤ key kx ky a) (difference_of_below _ _ ab)) (natural_of (pos 0 -ℤ cross a b c) (opposite_not_negative _ turn))
   where
-    nat_of : (z : ℤ) → pos 0 ≤ℤ z → (n : ℕ) × (z ≡ pos n)
-    nat_of (pos n) h = (n, refl)
-    nat_of (negsuc n) h = absurd (omega (arith, ints))
-
-    gap : (z w : ℤ) → z <ℤ w → pos 0 ≤ℤ (w -ℤ z)
-    gap z w h = omega (arith, ints)
-
-    turned : (z : ℤ) → z ≤ℤ pos 0 → pos 0 ≤ℤ (pos 0 -ℤ z)
-    turned z h = omega (arith, ints)
-
     some_of : (s : ℕ) (r : ℕ) (z w : ℤ) → z <ℤ w → w -ℤ z ≡ pos s → 0 < s * 1 + r * 1
     some_of s r z w h e = omega (arith, ints)
 

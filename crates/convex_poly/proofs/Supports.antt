@@ -8,6 +8,7 @@ use Rattle.spot_terms.specs.declared.plain.Pt.{Pt}
 use Rattle.spot_terms.specs.Lists.{Includes}
 use Rattle.spot_terms.specs.Hull.{dot, IsSupport}
 use Rattle.spot_terms.proofs.ListLemmas.{includes_at}
+use Rattle.spot_terms.proofs.Orders.{at_most_trans}
 use Rattle.convex_poly.proofs.Places.{same_index, place_of, compare3}
 
 -- g is the greatest value of the first i corners, and a corner has it
@@ -26,7 +27,7 @@ next_reached vs nx ny i d g r m h u e f =
     let w = max_of g r m f in
     record {
       bound = λ k k_d l. compare3 k i
-          (λ less. le_le _ _ _ (u.bound k k_d less) w.0)
+          (λ less. at_most_trans _ _ _ (u.bound k k_d less) w.0)
           (λ same. subst (λ z. z ≤ℤ m) (e ∙ ap (λ (p : Pt). dot nx ny p) (sym (same_index vs i k k_d d (omega (arith, same, h)) same))) w.1.0)
           (λ more. absurd (omega (arith, l, more)));
       reached = elim w.1.1 [
@@ -34,9 +35,6 @@ next_reached vs nx ny i d g r m h u e f =
         | inr new ↦ (get_or vs i d, includes_at vs i d h, sym e ∙ sym new)
       ];
     }
-  where
-    le_le : (a b c : ℤ) → a ≤ℤ b → b ≤ℤ c → a ≤ℤ c
-    le_le a b c h k = omega (arith, ints)
 
 pub whole_support : (vs : List Pt) (nx ny : ℤ) (i : ℕ) (g : ℤ) → length vs ≤ i → IsGreatestUpTo vs nx ny i g → IsSupport vs nx ny g
 whole_support vs nx ny i g h u = record {

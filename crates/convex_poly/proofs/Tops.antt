@@ -9,19 +9,18 @@ use Rattle.spot_terms.specs.declared.plain.Pt.{Pt}
 use Rattle.spot_terms.specs.Hull.{Before, IsCornerList}
 use Rattle.spot_terms.proofs.ListLemmas.{includes_at}
 use Rattle.spot_terms.proofs.Hulls.{hull_included}
-use Rattle.spot_terms.proofs.Mixes.{not_below_times}
 use Rattle.spot_terms.proofs.Ring.{ring, Exp, var, ◌⊕◌, ◌⊖◌, ◌⊗◌}
+use Rattle.spot_terms.proofs.Orders.{antisymmetric, below_of_difference, below_trans, sum_positive, product_not_negative, product_positive, difference_positive, below_or_at_least, positive_not_negative}
 use Rattle.convex_poly.specs.Chains.{key}
 use Rattle.convex_poly.specs.Polygons.{IsPosition, IsSummand}
 use Rattle.convex_poly.specs.Sums.{IsTop}
 use Rattle.convex_poly.specs.Turns.{cross}
-use Rattle.convex_poly.proofs.Chains.{gap_above, positive_part, positive_product}
+use Rattle.convex_poly.proofs.Chains.{positive_part}
 use Rattle.convex_poly.proofs.CornerCounts.{IsAfter, after_all, fan_all}
 use Rattle.convex_poly.proofs.Corners.{FanLeft, corner_fan, hull_edges_left, pt_same}
 use Rattle.convex_poly.proofs.Crosses.{cross_exp, cross_second}
 use Rattle.convex_poly.proofs.HullCorners.{before_key, far, key_before}
-use Rattle.convex_poly.proofs.Places.{all_at, all_map, order, same_index}
-use Rattle.convex_poly.proofs.Ways.{weak}
+use Rattle.convex_poly.proofs.Places.{all_at, all_map, same_index}
 
 -- ---- turns at the first corner
 
@@ -43,21 +42,9 @@ fall_sum kx ky ox oy ax ay bx by cx cy =
 
 fall_on : (kx ky : ℤ) (o a b c : Pt) → key kx ky o <ℤ key kx ky b → key kx ky b <ℤ key kx ky a → pos 0 <ℤ cross o a b → pos 0 <ℤ cross o b c → pos 0 ≤ℤ cross a b c → key kx ky c <ℤ key kx ky b
 fall_on kx ky o a b c ob ba oab obc abc =
-    back _ _ (positive_part (key kx ky b -ℤ key kx ky c) (cross o a b) oab
+    below_of_difference _ _ (positive_part (key kx ky b -ℤ key kx ky c) (cross o a b) oab
     (subst (λ z. pos 0 <ℤ z) (sym (fall_sum kx ky o.x o.y a.x a.y b.x b.y c.x c.y))
-    (sum _ _ (positive_product _ _ obc (gap_above _ _ ba)) (not_below_times _ _ abc (weak _ (gap_above _ _ ob))))))
-  where
-    back : (z w : ℤ) → pos 0 <ℤ (z -ℤ w) → w <ℤ z
-    back z w h = omega (arith, ints)
-
-    sum : (z w : ℤ) → pos 0 <ℤ z → pos 0 ≤ℤ w → pos 0 <ℤ (z +ℤ w)
-    sum z w h k = omega (arith, ints)
-
-lt_lt : (z w u : ℤ) → z <ℤ w → w <ℤ u → z <ℤ u
-lt_lt z w u h k = omega (arith, ints)
-
-clash : (z w : ℤ) → z <ℤ w → w <ℤ z → ⊥
-clash z w h k = omega (arith, ints)
+    (sum_positive _ _ (product_positive _ _ obc (difference_positive _ _ ba)) (product_not_negative _ _ abc (positive_not_negative _ (difference_positive _ _ ob))))))
 
 module _ (vs : List Pt) (positions : AllByRecursion IsPosition vs) (convex : IsCornerList vs) where
   -- two corners turn left as seen from the first
@@ -115,7 +102,7 @@ module _ (vs : List Pt) (positions : AllByRecursion IsPosition vs) (convex : IsC
       subst (λ t. rank t d <ℤ rank i d) j_is (falls_next k i (i - k) d (omega arith) h f (omega arith))
   falls_far k i j (suc n) d e h f ki l =
       let j_is : j - 1 + 1 ≡ j = omega arith in
-      lt_lt _ _ _ (subst (λ t. rank t d <ℤ rank (j - 1) d) j_is (falls_next k (j - 1) (j - 1 - k) d (omega arith) h f (omega arith)))
+      below_trans _ _ _ (subst (λ t. rank t d <ℤ rank (j - 1) d) j_is (falls_next k (j - 1) (j - 1 - k) d (omega arith) h f (omega arith)))
       (falls_far k i (j - 1) n d (omega arith) h f ki (omega arith))
 
   falls : (k i j : ℕ) (d : Pt) → 0 < k → rank (k + 1) d <ℤ rank k d → k ≤ i → i < j → j < length vs → rank j d <ℤ rank i d
@@ -133,7 +120,7 @@ module _ (vs : List Pt) (positions : AllByRecursion IsPosition vs) (convex : IsC
       later e b = stays (subst (λ (z : Pt). Before z (get_or vs (k + 1) d)) (same_index vs k k e d (omega arith) refl) (subst (λ (z : Pt). Before (get_or vs k e) z) (same_index vs (k + 1) (k + 1) e d n refl) b))
 
       some : 0 < k
-      some = elim (order 0 k) [
+      some = elim (below_or_at_least 0 k) [
         | inl above ↦ above
         | inr none ↦
             let k_is : 0 ≡ k = omega arith in
@@ -154,16 +141,13 @@ module _ (vs : List Pt) (positions : AllByRecursion IsPosition vs) (convex : IsC
           apart : (p q : Pt) → IsPosition p → IsPosition q → key far (pos 1) p ≤ℤ key far (pos 1) q → (Before p q → ⊥) → (p ≡ q → ⊥) → ⊥
           apart p q hp hq le nb ne =
               by_lt_z (key far (pos 1) p) (key far (pos 1) q) (λ less. nb (key_before p q hp hq less))
-              (λ ge. let same : key far (pos 1) p ≡ key far (pos 1) q = pin _ _ le ge in
+              (λ ge. let same : key far (pos 1) p ≡ key far (pos 1) q = antisymmetric _ _ le ge in
               by_lt_z p.x q.x (λ less. nb (inl less))
               (λ back. by_lt_z q.x p.x (λ more. swapped p q (before_key q p hq hp (inl more)) same)
-              (λ level. by_lt_z p.y q.y (λ less. nb (inr (pin _ _ level back, less)))
-              (λ high. by_lt_z q.y p.y (λ above. swapped p q (before_key q p hq hp (inr (pin _ _ back level, above))) same)
-              (λ even. ne (pt_same p q (pin _ _ level back) (pin _ _ even high)))))))
+              (λ level. by_lt_z p.y q.y (λ less. nb (inr (antisymmetric _ _ level back, less)))
+              (λ high. by_lt_z q.y p.y (λ above. swapped p q (before_key q p hq hp (inr (antisymmetric _ _ back level, above))) same)
+              (λ even. ne (pt_same p q (antisymmetric _ _ level back) (antisymmetric _ _ even high)))))))
             where
-              pin : (z w : ℤ) → z ≤ℤ w → w ≤ℤ z → z ≡ w
-              pin z w h k = omega (arith, ints)
-
               swapped : (p q : Pt) → key far (pos 1) q <ℤ key far (pos 1) p → key far (pos 1) p ≡ key far (pos 1) q → ⊥
               swapped p q h e = against _ _ h e
                 where
@@ -173,7 +157,7 @@ module _ (vs : List Pt) (positions : AllByRecursion IsPosition vs) (convex : IsC
 -- the corner after the top is later
 pub top_later : (vs : List Pt) (k : ℕ) (d : Pt) → ((i j : ℕ) (e : Pt) → i < j → j ≤ k → Before (get_or vs i e) (get_or vs j e)) → k + 1 < length vs → Before (get_or vs k d) (get_or vs (k + 1) d) → (i j : ℕ) (e : Pt) → i < j → j ≤ k + 1 → Before (get_or vs i e) (get_or vs j e)
 top_later vs k d up n next i j e ij jk =
-    elim (order j (k + 1)) [
+    elim (below_or_at_least j (k + 1)) [
       | inl low ↦ up i j e ij (omega arith)
       | inr high ↦ let j_is : k + 1 ≡ j = omega arith in subst (λ t. Before (get_or vs i e) (get_or vs t e)) j_is (last i (omega arith))
     ]
@@ -182,13 +166,13 @@ top_later vs k d up n next i j e ij jk =
     step = subst (λ (z : Pt). Before z (get_or vs (k + 1) e)) (same_index vs k k d e (omega arith) refl) (subst (λ (z : Pt). Before (get_or vs k d) z) (same_index vs (k + 1) (k + 1) d e n refl) next)
 
     before_on : (p q r : Pt) → Before p q → Before q r → Before p r
-    before_on p q r (inl a) (inl b) = inl (lt_lt p.x q.x r.x a b)
+    before_on p q r (inl a) (inl b) = inl (below_trans p.x q.x r.x a b)
     before_on p q r (inl a) (inr b) = inl (subst (λ z. p.x <ℤ z) b.0 a)
     before_on p q r (inr a) (inl b) = inl (subst (λ z. z <ℤ r.x) (sym a.0) b)
-    before_on p q r (inr a) (inr b) = inr (a.0 ∙ b.0, lt_lt p.y q.y r.y a.1 b.1)
+    before_on p q r (inr a) (inr b) = inr (a.0 ∙ b.0, below_trans p.y q.y r.y a.1 b.1)
 
     last : (i : ℕ) → i ≤ k → Before (get_or vs i e) (get_or vs (k + 1) e)
-    last i h = elim (order i k) [
+    last i h = elim (below_or_at_least i k) [
       | inl less ↦ before_on (get_or vs i e) (get_or vs k e) (get_or vs (k + 1) e) (up i k e less (omega arith)) step
       | inr same ↦ let i_is : k ≡ i = omega arith in subst (λ t. Before (get_or vs t e) (get_or vs (k + 1) e)) i_is step
     ]

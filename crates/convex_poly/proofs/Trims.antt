@@ -11,7 +11,8 @@ use Rattle.spot_terms.specs.declared.plain.Pt.{Pt}
 use Rattle.convex_poly.specs.Turns.{cross, TurnsLeft}
 use Rattle.convex_poly.specs.Chains.{key, Rising, Toward, KeepsFront, HasDent}
 use Rattle.spot_terms.proofs.ListLemmas.{includes_at, includes_back}
-use Rattle.convex_poly.proofs.Places.{all_by_index, all_map, same_index, order}
+use Rattle.spot_terms.proofs.Orders.{below_or_at_least}
+use Rattle.convex_poly.proofs.Places.{all_by_index, all_map, same_index}
 use Rattle.convex_poly.proofs.Chains.{push_turns}
 use Rattle.convex_poly.proofs.Sides.{toward_flat, toward_included, middle_toward}
 
@@ -101,11 +102,11 @@ trim_step old next cur new t dent e =
     each : (kx ky : ℤ) → Rising kx ky (old ++ next ∷ []) → (k : ℕ) (d : Pt) → k < length (cur ++ next ∷ []) → Toward ky (pos 0 -ℤ kx) (new ++ next ∷ []) (get_or (cur ++ next ∷ []) k d)
     each kx ky r k d l =
         let size : length (cur ++ next ∷ []) ≡ length cur + 1 = simp length-append (omega arith) in
-        elim (order k (length new)) [
+        elim (below_or_at_least k (length new)) [
           | inl low ↦ subst (Toward ky (pos 0 -ℤ kx) (new ++ next ∷ []))
               (get_or-append new (next ∷ []) d k low ∙ new_at k d low ∙ sym (get_or-append cur (next ∷ []) d k (omega (arith, new_size))))
               (toward_included ky (pos 0 -ℤ kx) (new ++ next ∷ []) (get_or (new ++ next ∷ []) k d) (includes_at (new ++ next ∷ []) k d (omega (arith, full))))
-          | inr high ↦ elim (order k (length cur)) [
+          | inr high ↦ elim (below_or_at_least k (length cur)) [
             | inl at_end ↦ subst (Toward ky (pos 0 -ℤ kx) (new ++ next ∷ [])) (sym (get_or-append cur (next ∷ []) d k at_end)) (dropped kx ky r (k - 1) k d (omega (arith, new_size, dent.two)) (omega (arith, new_size)))
             | inr past ↦ subst (Toward ky (pos 0 -ℤ kx) (new ++ next ∷ []))
                 (sym (ap (λ n. get_or (cur ++ next ∷ []) n d) (k_is (omega (arith, size))) ∙ get_or-append_seam cur next [] d))
@@ -147,7 +148,7 @@ trim_turns old next cur new t no_dent e kx ky r turns =
 
     cur_rises : Rising kx ky (cur ++ next ∷ [])
     cur_rises i j d ij jn =
-        elim (order j (length cur)) [
+        elim (below_or_at_least j (length cur)) [
           | inl low ↦ subst (λ z. key kx ky (get_or (cur ++ next ∷ []) i d) <ℤ key kx ky z) (sym (both_at j d low))
               (subst (λ z. key kx ky z <ℤ key kx ky (get_or (old ++ next ∷ []) j d)) (sym (both_at i d (omega arith))) (r i j d ij (omega (arith, whole, size, t.within))))
           | inr high ↦ subst (λ z. key kx ky (get_or (cur ++ next ∷ []) i d) <ℤ key kx ky z) (get_or-append_seam old next [] d ∙ sym (get_or-append_seam cur next [] d) ∙ ap (λ n. get_or (cur ++ next ∷ []) n d) (j_is (omega (arith, full))))

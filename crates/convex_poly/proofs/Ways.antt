@@ -10,6 +10,7 @@ use Rattle.spot_terms.proofs.Products.{square_not_negative}
 use Rattle.convex_poly.specs.Pivots.{turn_of, along}
 use Rattle.spot_terms.proofs.Ring.{ring, var, num, ◌⊕◌, ◌⊖◌, ◌⊗◌}
 use Rattle.spot_terms.proofs.Mixes.{Mix, mix_add, mix_scale, mix_to, mix_included}
+use Rattle.spot_terms.proofs.Orders.{times_zero}
 
 -- 0 is in the hull
 pub record Meets0 (vs : List Pt) : Type 0 where
@@ -39,11 +40,6 @@ rel_line A B C u v r h =
     (num (pos 0) ⊖ (((var 0 ⊗ var 3) ⊕ (var 1 ⊗ var 4)) ⊕ (var 2 ⊗ var 5))) refl
     ∙ ap (λ z. pos 0 -ℤ z) h
 
-pub is_zero : (z : ℤ) → (z ≡ pos 0) ⊎ (z ≡ pos 0 → ⊥)
-is_zero (pos zero) = inl refl
-is_zero (pos (suc n)) = inr (λ e. cc)
-is_zero (negsuc n) = inr (λ e. cc)
-
 pub zero_part : (x y : ℤ) → (x *ℤ x) +ℤ (y *ℤ y) ≡ pos 0 → x ≡ pos 0
 zero_part (pos zero) y h = refl
 zero_part (pos (suc n)) y h = absurd (omega (arith, ints, square_not_negative y, h))
@@ -62,23 +58,9 @@ flat_rel u v r h = record {
   x = ring (u.x ∷ u.y ∷ v.x ∷ v.y ∷ r.x ∷ [])
       ((((((var 0 ⊗ var 2) ⊕ (var 1 ⊗ var 3)) ⊗ var 0) ⊕ ((num (pos 0) ⊖ ((var 0 ⊗ var 0) ⊕ (var 1 ⊗ var 1))) ⊗ var 2)) ⊕ (num (pos 0) ⊗ var 4)))
       (var 1 ⊗ ((var 0 ⊗ var 3) ⊖ (var 1 ⊗ var 2))) refl
-      ∙ ap (λ z. u.y *ℤ z) h ∙ none u.y;
+      ∙ ap (λ z. u.y *ℤ z) h ∙ times_zero u.y;
   y = ring (u.x ∷ u.y ∷ v.x ∷ v.y ∷ r.y ∷ [])
       ((((((var 0 ⊗ var 2) ⊕ (var 1 ⊗ var 3)) ⊗ var 1) ⊕ ((num (pos 0) ⊖ ((var 0 ⊗ var 0) ⊕ (var 1 ⊗ var 1))) ⊗ var 3)) ⊕ (num (pos 0) ⊗ var 4)))
       ((num (pos 0) ⊖ var 0) ⊗ ((var 0 ⊗ var 3) ⊖ (var 1 ⊗ var 2))) refl
-      ∙ ap (λ z. (pos 0 -ℤ u.x) *ℤ z) h ∙ none (pos 0 -ℤ u.x);
+      ∙ ap (λ z. (pos 0 -ℤ u.x) *ℤ z) h ∙ times_zero (pos 0 -ℤ u.x);
 }
-  where
-    none : (z : ℤ) → z *ℤ pos 0 ≡ pos 0
-    none z = omega (arith, ints)
-
-pub weak : (z : ℤ) → pos 0 <ℤ z → pos 0 ≤ℤ z
-weak z h = omega (arith, ints)
-
--- a product of numbers above 0 is above 0
-pub above_times : (a b : ℤ) → pos 0 <ℤ a → pos 0 <ℤ b → pos 0 <ℤ (a *ℤ b)
-above_times (pos (suc a)) (pos (suc b)) h k = omega (arith, ints)
-above_times (pos zero) b h k = absurd (omega (arith, ints))
-above_times (negsuc a) b h k = absurd (omega (arith, ints))
-above_times (pos (suc a)) (pos zero) h k = absurd (omega (arith, ints))
-above_times (pos (suc a)) (negsuc b) h k = absurd (omega (arith, ints))

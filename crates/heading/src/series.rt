@@ -5,15 +5,16 @@ ghost use Rattle.spot_terms.specs.Whole.{SizeAtMost};
 ghost use Rattle.spot_terms.specs.Directions.{rough_sum, rough_cosine, rough_sine, least_speed, greatest_speed};
 
 use spot_num::{div_ceil, div_floor};
+use spot_terms::{MOST_ANGLE, MOST_SPEED};
 
-/// The square of the µrad in a radian.
+// The square of the µrad in a radian.
 const MICRO_SQUARED: u128 = 1_000_000_000_000;
 
-/// What cosines and sines are multiplied by.
+// What cosines and sines are multiplied by.
 const SCALE: i128 = 1_000_000_000_000_000_000;
 
-/// The terms up to the `last` one, each from the one before, added and taken away in turn. `odd` is 0 for the
-/// cosine and 1 for the sine, and `square` is the angle's, in µrad².
+// The terms up to the `last` one, each from the one before, added and taken away in turn. `odd` is 0 for the
+// cosine and 1 for the sine, and `square` is the angle's, in µrad².
 fn alternating_sum(first: u128, odd: u32, square: u128, last: u32) -> i128
     requires first { first ≤ 7 * 10 ^ 18 }
     requires odd { odd ≤ 1 }
@@ -37,7 +38,7 @@ fn alternating_sum(first: u128, odd: u32, square: u128, last: u32) -> i128
 
 /// 10^18 times the cosine of an angle in µrad, nearly.
 pub(crate) fn cosine_of(angle: i64) -> i128
-    requires { SizeAtMost 7_000_000 angle }
+    requires { SizeAtMost MOST_ANGLE angle }
     ensures value { result ≡ rough_cosine angle }
     ensures small { SizeAtMost (2 * 10 ^ 18 + 231) result }
 {
@@ -47,7 +48,7 @@ pub(crate) fn cosine_of(angle: i64) -> i128
 
 /// 10^18 times the sine of an angle in µrad, nearly.
 pub(crate) fn sine_of(angle: i64) -> i128
-    requires { SizeAtMost 7_000_000 angle }
+    requires { SizeAtMost MOST_ANGLE angle }
     ensures value { result ≡ rough_sine angle }
     ensures small { SizeAtMost (2 * 10 ^ 18 + 231) result }
 {
@@ -65,7 +66,7 @@ pub(crate) struct Ends {
 
 /// The whole speeds that a speed in mm/s, times a cosine or a sine that is given 10^18 times, may mean.
 pub(crate) fn side(speed: i64, part: i128) -> Ends
-    requires speed { SizeAtMost 200_000 speed }
+    requires speed { SizeAtMost MOST_SPEED speed }
     requires part { SizeAtMost (2 * 10 ^ 18 + 231) part }
     ensures least { result.lo ≡ least_speed speed part }
     ensures greatest { result.hi ≡ greatest_speed speed part }

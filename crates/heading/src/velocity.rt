@@ -8,7 +8,7 @@ ghost use Rattle.spot_terms.specs.Ranges.{IsBoxWithin};
 
 use crate::series::{cosine_of, side, sine_of};
 use spot_num::isqrt_ceil;
-use spot_terms::VBox;
+use spot_terms::{MOST_ANGLE, MOST_SPEED, VBox};
 
 /// The box of the whole velocities that a speed in mm/s and an angle in µrad may mean.
 ///
@@ -17,8 +17,8 @@ use spot_terms::VBox;
 /// The box holds each whole velocity that is within 1, in both coordinates, of the speed times the power series of
 /// the cosine up to the 40th power and of the sine up to the 39th.
 pub fn velocity_box(speed: i64, angle: i64) -> VBox
-    requires speed { SizeAtMost 200_000 speed }
-    requires angle { SizeAtMost 7_000_000 angle }
+    requires speed { SizeAtMost MOST_SPEED speed }
+    requires angle { SizeAtMost MOST_ANGLE angle }
 
     // Exactly the numbers of the two series.
     ensures value { result ≡ start_box speed angle }

@@ -1,5 +1,5 @@
 -- The interval that a cell is reached in first, from its label and the reach lengths at the ends of the intervals.
-use Rattle.std.proofs.Common.{◌≡◌, ◌∙◌, inl, inr, ℕ, zero, suc, ◌+◌, ◌*◌, ◌≤◌, ◌<◌, refl, ap, arith, add-one, List, [], ◌∷◌, ◌++◌, length, map, get_or, mul-le-mul, nat_abs}
+use Rattle.std.proofs.Common.{◌≡◌, ◌∙◌, inl, inr, ℕ, zero, suc, ◌+◌, ◌*◌, ◌≤◌, ◌<◌, refl, ap, sym, arith, add-one, List, [], ◌∷◌, ◌++◌, length, map, get_or, mul-le-mul, nat_abs}
 use Rattle.std.proofs.lemmas.List.{length-map, map-append}
 use Rattle.std.proofs.lemmas.Option.{slice_get_read, get_or_from_slice_get}
 use Rattle.std.specs.List.Sorted.{IsNonDecreasingBy}
@@ -10,9 +10,10 @@ use Rattle.spot_terms.specs.LanePolygons.{reach_of, IsFirst, IsReachedIn, IsReac
 use Rattle.spot_terms.specs.Lists.{numbers_from, numbers_below}
 use Rattle.spot_terms.specs.declared.plain.AccStart.{AccStart}
 use Rattle.spot_terms.proofs.ListLemmas.{below-from}
-use Rattle.convex_poly.proofs.Places.{order, same_index}
-use Rattle.lane_paths.specs.Labels.{AreLabels}
-use Rattle.lanelets.proofs.Places.{place_below, item_at}
+use Rattle.spot_terms.proofs.Orders.{below_or_at_least}
+use Rattle.convex_poly.proofs.Places.{same_index}
+use Rattle.lane_paths.specs.Labels.{AreLabels, label_at}
+use Rattle.lanelets.proofs.Places.{place_below}
 use Rattle.lane_occupancy.specs.Reaches.{ends_at, IsWithin}
 use Rattle.lane_occupancy.proofs.Paces.{reach_length_le}
 
@@ -21,15 +22,12 @@ use Rattle.lane_occupancy.proofs.Paces.{reach_length_le}
 one_item : {X : Type 0} (o : Option X) (x y : X) → o ≡ Some x → o ≡ Some y → x ≡ y
 one_item o x y e f = cc
 
-one_label : (o : Option (Option ℕ)) (m n : ℕ) → o ≡ Some (Some m) → o ≡ Some (Some n) → m ≡ n
-one_label o m n e f = cc
-
 -- the first ends are below the label
-module _ (labels : List (Option ℕ)) (ends : List ℕ) (c label first : ℕ) (label_is : slice_get labels c ≡ Some (Some label)) (below : (i d : ℕ) → i < first → get_or ends i d < label) where
+module _ (labels : List (Option ℕ)) (ends : List ℕ) (c label first : ℕ) (label_is : Some label ≡ label_at labels c) (below : (i d : ℕ) → i < first → get_or ends i d < label) where
   not_below : (i : ℕ) → IsWithin labels ends c i → first ≤ i
-  not_below i w = elim (order i first) [
+  not_below i w = elim (below_or_at_least i first) [
     | inr h ↦ h
-    | inl h ↦ absurd (let same = one_label (slice_get labels c) w.label label w.label_is label_is in let read = get_or_from_slice_get ends i w.end 0 w.end_is in let less = below i 0 h in omega (arith, same, read, less, w.low))
+    | inl h ↦ absurd (let same = one_item (label_at labels c) w.label label w.label_is (sym label_is) in let read = get_or_from_slice_get ends i w.end 0 w.end_is in let less = below i 0 h in omega (arith, same, read, less, w.low))
   ]
 
   pub first_within : first < length ends → ((i d : ℕ) → first ≤ i → i < length ends → label ≤ get_or ends i d) → IsLeast (IsWithin labels ends c) first
@@ -37,7 +35,7 @@ module _ (labels : List (Option ℕ)) (ends : List ℕ) (c label first : ℕ) (l
     holds = record {
       label = label;
       end = get_or ends first 0;
-      label_is = label_is;
+      label_is = sym label_is;
       end_is = slice_get_read ends (length ends) first (get_or ends first 0) refl h (same_index ends first first 0 (get_or ends first 0) h refl);
       low = above first 0 (omega arith) h;
     };
@@ -90,7 +88,7 @@ module _ (s : AccStart) (speed k steps : ℕ) where
 -- ---- cells
 
 module _ (lanes : List Lane) (s : AccStart) (speed k steps : ℕ) (labels : List (Option ℕ)) (are : AreLabels lanes s.p (reach_of s speed (steps * k)) labels) where
-  within_at : (c label i : ℕ) → slice_get labels c ≡ Some (Some label) → i < steps → label ≤ reach_of s speed ((i + 1) * k) → IsWithin labels (ends_at s speed k steps) c i
+  within_at : (c label i : ℕ) → label_at labels c ≡ Some label → i < steps → label ≤ reach_of s speed ((i + 1) * k) → IsWithin labels (ends_at s speed k steps) c i
   within_at c label i e h l = record { label = label; end = reach_of s speed ((i + 1) * k); label_is = e; end_is = end_at s speed k steps i h; low = l }
 
   -- the first interval that the code finds
@@ -101,14 +99,13 @@ module _ (lanes : List Lane) (s : AccStart) (speed k steps : ℕ) (labels : List
       let end : w.end ≡ reach_of s speed ((i + 1) * k) = one_item (slice_get (ends_at s speed k steps) i) w.end (reach_of s speed ((i + 1) * k)) w.end_is (end_at s speed k steps i low) in
       let first : IsFirst s speed k w.label i = record {
         holds = rw end at w.low;
-        least = λ q l. elim (order q i) [ inr m ↦ m | inl m ↦ h.least q (within_at c w.label q w.label_is (omega (arith, m, low)) l) ];
+        least = λ q l. elim (below_or_at_least q i) [ inr m ↦ m | inl m ↦ h.least q (within_at c w.label q w.label_is (omega (arith, m, low)) l) ];
       } in
       ((w.label, (are.some c w.label w.label_is).0, first), low)
 
   -- and where it finds none there is none
-  pub never_reached : (c : ℕ) → c < length (cells lanes) → ((i : ℕ) → IsWithin labels (ends_at s speed k steps) c i → ⊥) → IsReached lanes s speed k steps c → ⊥
-  never_reached c inside none r =
-      let (o, at) = item_at labels c (let many = are.count in omega (arith, inside, many)) in go o at
+  pub never_reached : (c : ℕ) → ((i : ℕ) → IsWithin labels (ends_at s speed k steps) c i → ⊥) → IsReached lanes s speed k steps c → ⊥
+  never_reached c none r = go (label_at labels c) refl
     where
       label : ℕ
       label = r.1.0
@@ -116,6 +113,6 @@ module _ (lanes : List Lane) (s : AccStart) (speed k steps : ℕ) (labels : List
       low : label ≤ reach_of s speed ((r.0 + 1) * k)
       low = r.1.2.holds
 
-      go : (o : Option ℕ) → slice_get labels c ≡ Some o → ⊥
+      go : (o : Option ℕ) → label_at labels c ≡ o → ⊥
       go None at = let above = are.none c at label r.1.1.holds in let most = reach_le s speed k steps (r.0 + 1) steps (omega (arith, r.2)) in omega (arith, above, low, most)
       go (Some n) at = let least = (are.some c n at).0.least label r.1.1.holds in none r.0 (within_at c n r.0 at r.2 (omega (arith, least, low)))

@@ -3,7 +3,7 @@ use Rattle.std.proofs.Common.{◌≡◌, ◌∙◌, ◌⊎◌, inl, inr, ℕ, ze
 use Rattle.std.proofs.Math.Nat.{le-div_iff_mul-le}
 use Rattle.std.specs.Prelude.{min}
 use Rattle.spot_terms.specs.LanePolygons.{reach_length}
-use Rattle.convex_poly.proofs.Places.{order}
+use Rattle.spot_terms.proofs.Orders.{below_or_at_least}
 use Rattle.lane_occupancy.proofs.Paces.{reach_length-suc}
 
 none : (speed a v : ℕ) → reach_length speed a v 0 ≡ 0
@@ -47,13 +47,13 @@ module _ (speed a v ticks rising risen : ℕ) (some : 1 ≤ a) (rising_is : risi
 
   -- and the next is at least v, if there is one
   high : rising < ticks → v ≤ speed + suc rising * a
-  high h = elim (order (v - speed) (suc rising * a)) [
+  high h = elim (below_or_at_least (v - speed) (suc rising * a)) [
     | inl l ↦ omega (arith, l)
     | inr l ↦ absurd (let k : suc rising ≤ (v - speed) / a = (le-div_iff_mul-le {k = a} {x = suc rising} {y = v - speed} some).1 l in omega (arith, k, rising_is, h))
   ]
 
   pub together : risen + (ticks - rising) * v ≡ reach_length speed a v ticks
-  together = elim (order rising ticks) [
+  together = elim (below_or_at_least rising ticks) [
     | inl h ↦ rw front (sym (ap (reach_length speed a v) (let e : ticks ≡ rising + (ticks - rising) = omega (arith, h) in e) ∙ capped speed a v rising (ticks - rising) (high h)))
     | inr h ↦ (let same : ticks ≡ rising = omega (arith, h, rising_is) in let rest : (ticks - rising) * v ≡ 0 = (let z : ticks - rising ≡ 0 = omega (arith, h) in ap (λ n. n * v) z ∙ (let w : 0 * v ≡ 0 = omega arith in w)) in omega (arith, rest, front, ap (reach_length speed a v) same))
   ]

@@ -19,9 +19,6 @@ use Rattle.lane_occupancy.proofs.Starts.{one_speed}
 
 -- ---- what the search for an interval asks for
 
-pub label_inside : (lanes : List Lane) (s : AccStart) (speed k steps : ℕ) (labels : List (Option ℕ)) (c n : ℕ) → IsStartSpeed s.b speed → AreLabelsOf lanes s k steps labels → n ≡ length (cells lanes) → c < n → c < length labels
-label_inside lanes s speed k steps labels c n h are e l = let many = (are speed h).count in omega (arith, many, e, l)
-
 pub few_ends : (s : AccStart) (speed k steps : ℕ) (ends items : List ℕ) → steps ≤ 100 → ends ≡ items → items ≡ ends_at s speed k steps → length ends ≤ 100
 few_ends s speed k steps ends items h e f = let n = ap length (e ∙ f) in let few = ends_length s speed k steps in omega (arith, n, few, h)
 
@@ -38,8 +35,8 @@ module _ (lanes : List Lane) (s : AccStart) (own k steps : ℕ) (labels : List (
   pub is_reached : (c i : ℕ) → IsLeast (IsWithin labels ends c) i → IsReachedIn lanes s speed k steps c i × (i < steps)
   is_reached c i h = reached_in lanes s speed k steps labels (are speed is_speed) c i (subst (λ (xs : List ℕ). IsLeast (IsWithin labels xs c) i) at_speed h)
 
-  pub is_never : (c n : ℕ) → n ≡ length (cells lanes) → c < n → ((i : ℕ) → IsWithin labels ends c i → ⊥) → IsReached lanes s speed k steps c → ⊥
-  is_never c n e l none = never_reached lanes s speed k steps labels (are speed is_speed) c (omega (arith, e, l)) (subst (λ (xs : List ℕ). (i : ℕ) → IsWithin labels xs c i → ⊥) at_speed none)
+  pub is_never : (c : ℕ) → ((i : ℕ) → IsWithin labels ends c i → ⊥) → IsReached lanes s speed k steps c → ⊥
+  is_never c none = never_reached lanes s speed k steps labels (are speed is_speed) c (subst (λ (xs : List ℕ). (i : ℕ) → IsWithin labels xs c i → ⊥) at_speed none)
 
 pub found : (o : Option ℕ) (P : ℕ → Type 0) → is_some o ≡ true → IfSome o P → (i : ℕ) × P i
 found None P e h = cc

@@ -10,7 +10,7 @@ ghost use Rattle.lane_occupancy.specs.Reaches.{ends_at, IsWithin};
 
 use crate::reach::reach_length;
 use lane_paths::LabelTable;
-use spot_terms::AccStart;
+use spot_terms::{AccStart, LAST_TICK, MOST_STEPS, MOST_TICKS};
 use std::alloc::{AllocError, Global};
 
 /// The reach lengths at the ends of the intervals below `steps`, each of `k` ticks, of a start with this start speed.
@@ -23,8 +23,8 @@ pub(crate) fn interval_ends(
 ) -> Result<Vec<u64>, AllocError>
     requires start { IsStart s.now }
     requires speed { IsStartSpeed s.now.b speed }
-    requires ticks { k ≤ 1000 }
-    requires steps { steps ≤ 100 }
+    requires ticks { k ≤ MOST_TICKS }
+    requires steps { steps ≤ MOST_STEPS }
     ensures { IfOk result (λ ends. ends.items ≡ ends_at s.now speed k steps) }
 {
     let mut ends = Vec::with_capacity(alloc, steps as usize)?;
@@ -38,7 +38,7 @@ pub(crate) fn interval_ends(
 fn reach_at(s: &AccStart, speed: u64, ticks: u32) -> u64
     requires start { IsStart s.now }
     requires speed { IsStartSpeed s.now.b speed }
-    requires ticks { ticks ≤ 100_000 }
+    requires ticks { ticks ≤ LAST_TICK }
     ensures { result ≡ reach_of s.now speed ticks }
 {
     reach_length(speed, s.a.unsigned_abs(), s.v.unsigned_abs(), ticks)
@@ -46,8 +46,7 @@ fn reach_at(s: &AccStart, speed: u64, ticks: u32) -> u64
 
 /// The first interval at whose end a cell's label is at most the reach length; `None` where there is none.
 pub(crate) fn first_interval(labels: &LabelTable, ends: &[u64], c: u32) -> Option<u32>
-    requires cell { c < length labels.now }
-    requires few { length ends.now ≤ 100 }
+    requires few { length ends.now ≤ MOST_STEPS }
     requires ends { IsNonDecreasingBy (λ end. end) ends.now }
     ensures some { IfSome result (λ i. IsLeast (IsWithin labels.now ends.now c) i) }
     ensures none { IfNone result ((i : ℕ) → IsWithin labels.now ends.now c i → ⊥) }

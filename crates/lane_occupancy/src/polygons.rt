@@ -13,9 +13,8 @@ use convex_poly::{Poly, sum_hull};
 use heading::start_speed;
 use lane_paths::{LabelTable, Network};
 use round_out::body_poly;
-use spot_terms::AccStart;
+use spot_terms::{AccStart, Items, MOST_STEPS, MOST_TICKS};
 use std::alloc::{AllocError, Global};
-use std::marker::Model;
 
 /// A lane polygon: what a body covers whose centre is in the cell with this number, and the first interval that the
 /// cell is reached in.
@@ -27,35 +26,7 @@ pub struct LanePoly {
 }
 
 /// A list of lane polygons.
-#[derive(Drop)]
-pub struct LanePolys {
-    items: Vec<LanePoly>,
-}
-
-impl Model for LanePolys {
-    ghost use Rattle.std.specs.Prelude.{List};
-    ghost use Rattle.lane_occupancy.specs.declared.polygons.LanePoly.{LanePoly};
-
-    ghost Value = { List LanePoly };
-
-    ghost view = { λ l. l.items.items };
-}
-
-impl LanePolys {
-    /// The list of these items.
-    pub fn from_vec(items: Vec<LanePoly>) -> Self
-        ensures { result ≡ items.items }
-    {
-        LanePolys { items }
-    }
-
-    /// The items, in order.
-    pub fn list(&self) -> &[LanePoly]
-        ensures { result.now ≡ self.now }
-    {
-        &self.items
-    }
-}
+pub type LanePolys = Items<LanePoly>;
 
 /// How many cells a participant reaches in the intervals below `steps`, each of `k` ticks: as many lane polygons it has.
 ///
@@ -71,8 +42,8 @@ pub fn reached_cells(
     steps: u32,
 ) -> Result<u32, AllocError>
     requires start { IsStart s.now }
-    requires ticks { (1 ≤ k) × (k ≤ 1000) }
-    requires steps { steps ≤ 100 }
+    requires ticks { (1 ≤ k) × (k ≤ MOST_TICKS) }
+    requires steps { steps ≤ MOST_STEPS }
     requires labels { AreLabelsOf net.now s.now k steps labels.now }
     ensures { IfOk result (λ count. HasCount net.now s.now k steps count) }
 {
@@ -103,8 +74,8 @@ pub fn lane_polys(
     steps: u32,
 ) -> Result<LanePolys, AllocError>
     requires start { IsStart s.now }
-    requires ticks { (1 ≤ k) × (k ≤ 1000) }
-    requires steps { steps ≤ 100 }
+    requires ticks { (1 ≤ k) × (k ≤ MOST_TICKS) }
+    requires steps { steps ≤ MOST_STEPS }
     requires labels { AreLabelsOf net.now s.now k steps labels.now }
     ensures exact { IfOk result (λ polys. (speed : ℕ) → IsStartSpeed s.now.b speed → AreLanePolygons net.now s.now speed k steps (map polygon_of polys)) }
     ensures holds { IfOk result (λ polys. (speed : ℕ) → IsStartSpeed s.now.b speed → HoldsLaneBodies net.now s.now speed k steps (map polygon_of polys)) }

@@ -23,14 +23,14 @@ fn reach_lengths(rt: HostRuntime) -> Result<(), Fail> {
     Ok(())
 }
 
-/// A point in metres.
+// A point in metres.
 fn place(x: u8, y: u8) -> (i64, i64)
     ensures { IsPairInRange result }
 {
     (i64::from(x) * 1_000_000, i64::from(y) * 1_000_000)
 }
 
-/// A lanelet by pairs of a left and a right point in metres.
+// A lanelet by pairs of a left and a right point in metres.
 fn lane(alloc: Global, pairs: &[[u8; 4]]) -> Result<RawLane, AllocError>
     requires some { 2 ≤ length pairs.now }
     requires few { length pairs.now ≤ 10 }
@@ -51,7 +51,7 @@ fn lane(alloc: Global, pairs: &[[u8; 4]]) -> Result<RawLane, AllocError>
     })
 }
 
-/// One lanelet, with the id 1.
+// One lanelet, with the id 1.
 fn one(alloc: Global, first: RawLane) -> Result<IndexMap<u32, RawLane>, AllocError>
     requires { IsLaneInRange first × (lane_size first ≤ 20) }
     ensures { IfOk result (λ lanes. AreBuildable lanes.entries) }
@@ -61,7 +61,7 @@ fn one(alloc: Global, first: RawLane) -> Result<IndexMap<u32, RawLane>, AllocErr
     Ok(lanes)
 }
 
-/// A car at (1, 2) in metres, with 10 m/s along x and a body of radius 1 m. Its start speed is 10,002.
+// A car at (1, 2) in metres, with 10 m/s along x and a body of radius 1 m. Its start speed is 10,002.
 fn car() -> AccStart
     ensures { IsStart result }
 {
@@ -82,8 +82,8 @@ fn car() -> AccStart
     }
 }
 
-/// The number of cells that a participant reaches on lanelets in intervals of 100 ticks, and its lane polygons. Nothing
-/// where there is no network.
+// The number of cells that a participant reaches on lanelets in intervals of 100 ticks, and its lane polygons. Nothing
+// where there is no network.
 fn polygons_on(
     alloc: Global,
     lanes: &IndexMap<u32, RawLane>,
@@ -104,7 +104,7 @@ fn polygons_on(
     Ok((count, lane_polys(alloc, &net, &table, s, 100, steps)?))
 }
 
-/// The corners of the polygon of a cell, as x and y.
+// The corners of the polygon of a cell, as x and y.
 fn corners_of(alloc: Global, polys: &LanePolys, cell: u32) -> Result<Vec<(i64, i64)>, AllocError> {
     let mut corners = Vec::new(alloc);
     for x in polys.list() {

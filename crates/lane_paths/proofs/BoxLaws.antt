@@ -11,6 +11,7 @@ use Rattle.spot_terms.specs.Bodies.{IsGreatest}
 use Rattle.spot_terms.specs.Gaps.{AreFar, IsFarFrom}
 use Rattle.spot_terms.specs.Lists.{Includes}
 use Rattle.spot_terms.proofs.ListLemmas.{includes_at, includes_taken}
+use Rattle.spot_terms.proofs.Orders.{at_most_or_at_least, at_most_trans}
 use Rattle.lane_paths.specs.declared.boxes.BoundingBox.{BoundingBox}
 use Rattle.lane_paths.specs.Boxes.{IsAbove, IsBoxOf, IsHighest, IsLowest, LieBeside}
 
@@ -25,9 +26,6 @@ pub record IsHighestSoFar (along : Pt → ℤ) (points : List Pt) (i : ℕ) (n :
   pub each : (p : Pt) → Includes (take i points) p → along p ≤ℤ n
   pub one : (p : Pt) × Includes points p × (along p ≡ n)
 
-below : (a b c : ℤ) → a ≤ℤ b → b ≤ℤ c → a ≤ℤ c
-below a b c h k = omega (arith, ints)
-
 min_of : (g r m : ℤ) → m ≡ int_min g r → (m ≤ℤ g) × (m ≤ℤ r) × ((m ≡ g) ⊎ (m ≡ r))
 min_of g r m e = grind (arith, ints)
 
@@ -38,7 +36,7 @@ max_of g r m e = grind (arith, ints)
 lowest_more : (along : Pt → ℤ) (points : List Pt) (i : ℕ) (d : Pt) (before now : ℤ) → i < length points → IsLowestSoFar along points i before → now ≡ int_min before (along (slice_index_or points i d)) → IsLowestSoFar along points (i + 1) now
 lowest_more along points i d before now h k e = let m = min_of before (along (slice_index_or points i d)) now e in record {
   each = λ p j. elim (includes_taken points i d p h j) [
-    | inl front ↦ below now before (along p) m.0 (k.each p front)
+    | inl front ↦ at_most_trans now before (along p) m.0 (k.each p front)
     | inr same ↦ subst (λ (z : Pt). now ≤ℤ along z) (sym same) m.1
   ];
   one = elim m.2 [
@@ -50,7 +48,7 @@ lowest_more along points i d before now h k e = let m = min_of before (along (sl
 highest_more : (along : Pt → ℤ) (points : List Pt) (i : ℕ) (d : Pt) (before now : ℤ) → i < length points → IsHighestSoFar along points i before → now ≡ int_max before (along (slice_index_or points i d)) → IsHighestSoFar along points (i + 1) now
 highest_more along points i d before now h k e = let m = max_of before (along (slice_index_or points i d)) now e in record {
   each = λ p j. elim (includes_taken points i d p h j) [
-    | inl front ↦ below (along p) before now (k.each p front) m.0
+    | inl front ↦ at_most_trans (along p) before now (k.each p front) m.0
     | inr same ↦ subst (λ (z : Pt). along z ≤ℤ now) (sym same) m.1
   ];
   one = elim m.2 [
@@ -150,9 +148,6 @@ gap_below (pos m) (negsuc n) h = refl
 gap_below (negsuc m) (pos n) h = absurd (omega (arith, ints))
 gap_below (negsuc m) (negsuc n) h = omega (arith, ints)
 
-either_order : (s t : ℤ) → (s ≤ℤ t) ⊎ (t ≤ℤ s)
-either_order s t = grind (arith, ints)
-
 -- n is 0 or the points of a are above those of b by it, and by no more
 record IsRise (along : Pt → ℤ) (a b : List Pt) (n : ℕ) : Type 0 where
   pub holds : (n ≡ 0) ⊎ IsAbove along a b n
@@ -160,11 +155,11 @@ record IsRise (along : Pt → ℤ) (a b : List Pt) (n : ℕ) : Type 0 where
 
 side_rise : (along : Pt → ℤ) (a b : List Pt) (low high : ℤ) → IsLowest along a low → IsHighest along b high → IsRise along a b (int_gap high low)
 side_rise along a b low high l h = record {
-  holds = elim (either_order high low) [
+  holds = elim (at_most_or_at_least high low) [
     | inl up ↦ inr (λ p q i j. further (along p) (along q) low high (int_gap high low) (l.each p i) (h.each q j) (gap_above high low up))
     | inr down ↦ inl (gap_below high low down)
   ];
-  greatest = λ q k. elim (either_order high low) [
+  greatest = λ q k. elim (at_most_or_at_least high low) [
     | inl up ↦ within (along l.one.0) (along h.one.0) low high q (int_gap high low) l.one.2 h.one.2 (gap_above high low up) (k l.one.0 h.one.0 l.one.1 h.one.1)
     | inr down ↦ none (along l.one.0) (along h.one.0) low high q (int_gap high low) l.one.2 h.one.2 down (k l.one.0 h.one.0 l.one.1 h.one.1)
   ];

@@ -2,6 +2,7 @@
 use Rattle.std.proofs.Common.{◌≡◌, ◌∙◌, ℕ, ◌+◌, ◌*◌, ◌≤◌, ◌<◌, arith, refl, sym, ap, List, [], ◌∷◌, ◌++◌, take, length, slice_index_or, mul-le-mul}
 use Rattle.std.proofs.lemmas.List.{append-nil, append_assoc, length-append, length-take-le, take_more, take_all}
 use Rattle.spot_terms.specs.declared.plain.Pt.{Pt}
+use Rattle.spot_terms.proofs.Orders.{natural_weaken}
 use Rattle.convex_poly.specs.Pivots.{minus, each_minus, differences}
 
 -- ---- one point against a list
@@ -25,11 +26,8 @@ each_more old before now p b i d way h e f g =
 -- room for one more
 pub each_room : (old now : List Pt) (p : Pt) (b : List Pt) (i room : ℕ) → i < length b → now ≡ old ++ each_minus p (take i b) → length old + length b ≤ room → length now < room
 each_room old now p b i room h e k =
-    let so_far : length now ≡ length old + i = ap length e ∙ length-append old (each_minus p (take i b)) ∙ ap (λ (n : ℕ). length old + n) (length-each p (take i b) ∙ length-take-le i b (below i (length b) h)) in
+    let so_far : length now ≡ length old + i = ap length e ∙ length-append old (each_minus p (take i b)) ∙ ap (λ (n : ℕ). length old + n) (length-each p (take i b) ∙ length-take-le i b (natural_weaken i (length b) h)) in
     omega (arith, so_far, h, k)
-  where
-    below : (m n : ℕ) → m < n → m ≤ n
-    below m n l = omega arith
 
 -- ---- a list against a list
 
@@ -42,7 +40,7 @@ length-differences : (a b : List Pt) → length (differences a b) ≡ length a *
 length-differences [] b = omega arith
 length-differences (p ∷ a) b = length-append (each_minus p b) (differences a b) ∙ omega (arith, length-each p b, length-differences a b)
 
--- the ways of one more point
+-- the vectors of one more point
 pub differences_more : (before now : List Pt) (a b : List Pt) (i : ℕ) (d : Pt) → i < length a → before ≡ differences (take i a) b → now ≡ before ++ each_minus (slice_index_or a i d) b → now ≡ differences (take (i + 1) a) b
 differences_more before now a b i d h e f =
     f ∙ ap (λ (z : List Pt). z ++ each_minus (slice_index_or a i d) b) e
@@ -52,17 +50,14 @@ differences_more before now a b i d h e f =
 -- room for those of one more point
 pub differences_room : (now a b : List Pt) (i room : ℕ) → i < length a → length a * length b ≤ room → now ≡ differences (take i a) b → length now + length b ≤ room
 differences_room now a b i room h few e =
-    let so_far : length now ≡ i * length b = ap length e ∙ length-differences (take i a) b ∙ ap (λ (n : ℕ). n * length b) (length-take-le i a (below i (length a) h)) in
+    let so_far : length now ≡ i * length b = ap length e ∙ length-differences (take i a) b ∙ ap (λ (n : ℕ). n * length b) (length-take-le i a (natural_weaken i (length a) h)) in
     let all : (i + 1) * length b ≤ length a * length b = grow (i + 1) (length a) (length b) (omega (arith, h)) in
     omega (arith, so_far, all, few)
   where
-    below : (m n : ℕ) → m < n → m ≤ n
-    below m n l = omega arith
-
     grow : (x y u : ℕ) → x ≤ y → x * u ≤ y * u
     grow x y u k = grind (arith, mul-le-mul)
 
--- some ways from some points to some points
+-- some vectors from some points to some points
 pub differences_some : (a b : List Pt) → 0 < length a → 0 < length b → 0 < length (differences a b)
 differences_some a b h k =
     let all : 1 * 1 ≤ length a * length b = mul-le-mul h k in

@@ -12,9 +12,9 @@ use Rattle.spot_terms.specs.Whole.{square}
 use Rattle.spot_terms.proofs.Hulls.{hull_at_most}
 use Rattle.spot_terms.proofs.ListLemmas.{all_of}
 use Rattle.spot_terms.proofs.Ring.{ring, var, num, ◌⊕◌, ◌⊖◌, ◌⊗◌}
+use Rattle.spot_terms.proofs.Orders.{at_most_of_difference, difference_not_negative}
 use Rattle.convex_poly.specs.Pivots.{AreDisjoint}
 use Rattle.lane_paths.specs.Boxes.{IsAbove, IsGapBound, LieBeside}
-use Rattle.lane_paths.proofs.Signs.{le_of, room}
 
 -- ---- from points to hulls
 
@@ -23,7 +23,7 @@ above_hull : (s t : ℤ) (a b : List Pt) (n : ℕ) (p q : FractionPt) → ((u v 
     → pos 0 ≤ℤ (((((s *ℤ p.x) +ℤ (t *ℤ p.y)) *ℤ pos q.d) -ℤ (((s *ℤ q.x) +ℤ (t *ℤ q.y)) *ℤ pos p.d)) -ℤ (pos n *ℤ (pos q.d *ℤ pos p.d)))
 above_hull s t a b n p q above i j =
     subst (λ z. pos 0 ≤ℤ z) (whole s t p.x p.y q.x q.y (pos p.d) (pos q.d) (pos n))
-    (room _ _ (hull_at_most (pos 0 -ℤ (s *ℤ pos q.d)) (pos 0 -ℤ (t *ℤ pos q.d)) ((pos 0 -ℤ ((s *ℤ q.x) +ℤ (t *ℤ q.y))) -ℤ (pos n *ℤ pos q.d)) a p
+    (difference_not_negative _ _ (hull_at_most (pos 0 -ℤ (s *ℤ pos q.d)) (pos 0 -ℤ (t *ℤ pos q.d)) ((pos 0 -ℤ ((s *ℤ q.x) +ℤ (t *ℤ q.y))) -ℤ (pos n *ℤ pos q.d)) a p
     (all_of (λ u. dot (pos 0 -ℤ (s *ℤ pos q.d)) (pos 0 -ℤ (t *ℤ pos q.d)) u ≤ℤ ((pos 0 -ℤ ((s *ℤ q.x) +ℤ (t *ℤ q.y))) -ℤ (pos n *ℤ pos q.d))) a
     (λ u k. turned s t u.x u.y (pos q.d) (pos n) ((s *ℤ q.x) +ℤ (t *ℤ q.y))
     (hull_at_most s t (dot s t u -ℤ pos n) b q (all_of (λ v. dot s t v ≤ℤ (dot s t u -ℤ pos n)) b (λ v l. moved (dot s t v) (dot s t u) (pos n) (above u v k l))) j))) i))
@@ -32,9 +32,9 @@ above_hull s t a b n p q above i j =
     moved x y n h = omega (arith, ints)
 
     turned : (s t x y d n Q : ℤ) → Q ≤ℤ ((((s *ℤ x) +ℤ (t *ℤ y)) -ℤ n) *ℤ d) → (((pos 0 -ℤ (s *ℤ d)) *ℤ x) +ℤ ((pos 0 -ℤ (t *ℤ d)) *ℤ y)) ≤ℤ ((pos 0 -ℤ Q) -ℤ (n *ℤ d))
-    turned s t x y d n Q h = le_of _ _ (subst (λ z. pos 0 ≤ℤ z) (ring (s ∷ t ∷ x ∷ y ∷ d ∷ n ∷ Q ∷ [])
+    turned s t x y d n Q h = at_most_of_difference _ _ (subst (λ z. pos 0 ≤ℤ z) (ring (s ∷ t ∷ x ∷ y ∷ d ∷ n ∷ Q ∷ [])
         (((((var 0 ⊗ var 2) ⊕ (var 1 ⊗ var 3)) ⊖ var 5) ⊗ var 4) ⊖ var 6)
-        (((num (pos 0) ⊖ var 6) ⊖ (var 5 ⊗ var 4)) ⊖ (((num (pos 0) ⊖ (var 0 ⊗ var 4)) ⊗ var 2) ⊕ ((num (pos 0) ⊖ (var 1 ⊗ var 4)) ⊗ var 3))) refl) (room _ _ h))
+        (((num (pos 0) ⊖ var 6) ⊖ (var 5 ⊗ var 4)) ⊖ (((num (pos 0) ⊖ (var 0 ⊗ var 4)) ⊗ var 2) ⊕ ((num (pos 0) ⊖ (var 1 ⊗ var 4)) ⊗ var 3))) refl) (difference_not_negative _ _ h))
 
     whole : (s t p r q v d e n : ℤ) → (((pos 0 -ℤ ((s *ℤ q) +ℤ (t *ℤ v))) -ℤ (n *ℤ e)) *ℤ d) -ℤ (((pos 0 -ℤ (s *ℤ e)) *ℤ p) +ℤ ((pos 0 -ℤ (t *ℤ e)) *ℤ r))
         ≡ ((((s *ℤ p) +ℤ (t *ℤ r)) *ℤ e) -ℤ (((s *ℤ q) +ℤ (t *ℤ v)) *ℤ d)) -ℤ (n *ℤ (e *ℤ d))

@@ -1,4 +1,4 @@
--- The root of the least span of two differences is the gap of the two lists, where they have no common point.
+-- The root of the least clearance of two differences is the gap of the two lists, where they have no common point.
 use Rattle.std.proofs.Common.{◌≡◌, ℕ, zero, suc, ◌+◌, ◌*◌, ◌≤◌, ◌<◌, arith, refl, sym, ap, ◌∙◌, subst, List, [], ◌∷◌, inl, inr}
 use Rattle.std.proofs.lemmas.Int.{ints}
 use lib.IntN.{ℤ, pos, negsuc, ◌+ℤ◌, ◌-ℤ◌, ◌*ℤ◌}
@@ -10,18 +10,17 @@ use Rattle.spot_terms.specs.Bodies.{IsGreatest}
 use Rattle.spot_terms.specs.Gaps.{KeepsApart}
 use Rattle.spot_terms.specs.Hull.{InHullAt}
 use Rattle.spot_terms.proofs.Hulls.{hull_mix_at, mix_hull_at}
-use Rattle.spot_terms.proofs.Mixes.{Mix, mix_add, mix_scale, mix_to, mix_included, not_below_times, positive_times}
+use Rattle.spot_terms.proofs.Mixes.{Mix, mix_add, mix_scale, mix_to, mix_included, positive_times}
 use Rattle.spot_terms.proofs.Products.{square_not_negative, square_of_size}
 use Rattle.spot_terms.proofs.Ring.{ring, var, num, ◌⊕◌, ◌⊖◌, ◌⊗◌}
 use Rattle.spot_terms.proofs.Roots.{root_order}
+use Rattle.spot_terms.proofs.Orders.{positive_natural, product_not_negative, factor_not_negative, square_positive, at_most_of_difference, difference_not_negative}
 use Rattle.convex_poly.specs.Pivots.{differences}
 use Rattle.convex_poly.proofs.Differences.{to_differences, from_differences}
-use Rattle.convex_poly.proofs.Disjoint.{part_ok}
 use Rattle.convex_poly.proofs.Ways.{Meets0}
-use Rattle.lane_paths.specs.Spans.{norm, StaysOff, IsLeastSpan}
-use Rattle.lane_paths.proofs.HullSpans.{hull_off}
-use Rattle.lane_paths.proofs.Spans.{off_down}
-use Rattle.lane_paths.proofs.Signs.{above_square, le_of, room}
+use Rattle.lane_paths.specs.Clearances.{norm, StaysOff, IsLeastClearance}
+use Rattle.lane_paths.proofs.HullClearances.{hull_off}
+use Rattle.lane_paths.proofs.ClearanceLaws.{off_down}
 
 -- ---- no two points are nearer
 
@@ -36,7 +35,7 @@ gap_line S T p q d e X P h k =
 -- a bound of the differences (M, N) times e, by t, is one of (A, B)
 scaled : (S t e A B M N : ℤ) → pos 0 <ℤ t → t *ℤ A ≡ (pos 0 -ℤ e) *ℤ M → t *ℤ B ≡ (pos 0 -ℤ e) *ℤ N → (S *ℤ (t *ℤ t)) ≤ℤ norm M N → (S *ℤ (e *ℤ e)) ≤ℤ norm A B
 scaled S t e A B M N ht ha hb o =
-    le_of _ _ (part_ok (t *ℤ t) (norm A B -ℤ (S *ℤ (e *ℤ e))) (above_square t ht) (subst (λ z. pos 0 ≤ℤ z) (sym same) (not_below_times (e *ℤ e) (norm M N -ℤ (S *ℤ (t *ℤ t))) (square_not_negative e) (room _ _ o))))
+    at_most_of_difference _ _ (factor_not_negative (t *ℤ t) (norm A B -ℤ (S *ℤ (e *ℤ e))) (square_positive t ht) (subst (λ z. pos 0 ≤ℤ z) (sym same) (product_not_negative (e *ℤ e) (norm M N -ℤ (S *ℤ (t *ℤ t))) (square_not_negative e) (difference_not_negative _ _ o))))
   where
     same : (t *ℤ t) *ℤ (norm A B -ℤ (S *ℤ (e *ℤ e))) ≡ (e *ℤ e) *ℤ (norm M N -ℤ (S *ℤ (t *ℤ t)))
     same = ring (t ∷ A ∷ B ∷ S ∷ e ∷ []) ((var 0 ⊗ var 0) ⊗ (((var 1 ⊗ var 1) ⊕ (var 2 ⊗ var 2)) ⊖ (var 3 ⊗ (var 4 ⊗ var 4))))
@@ -63,13 +62,10 @@ keeps_apart a b w never off p q hp hq ip iq =
       | inr z ↦ absurd (never z)
       | inl o ↦ stated w p.d q.d ((q.x *ℤ pos p.d) -ℤ (p.x *ℤ pos q.d)) ((q.y *ℤ pos p.d) -ℤ (p.y *ℤ pos q.d))
           (scaled (pos (w * w)) (pos (m.n * n.n)) (pos p.d *ℤ pos q.d) ((q.x *ℤ pos p.d) -ℤ (p.x *ℤ pos q.d)) ((q.y *ℤ pos p.d) -ℤ (p.y *ℤ pos q.d)) ((pos n.n *ℤ m.X) -ℤ (pos m.n *ℤ n.X)) ((pos n.n *ℤ m.Y) -ℤ (pos m.n *ℤ n.Y))
-          (above (m.n * n.n) (positive_times m.n n.n m.some n.some))
+          (positive_natural (m.n * n.n) (positive_times m.n n.n m.some n.some))
           (gap_line (pos m.n) (pos n.n) p.x q.x (pos p.d) (pos q.d) m.X n.X m.x n.x)
           (gap_line (pos m.n) (pos n.n) p.y q.y (pos p.d) (pos q.d) m.Y n.Y m.y n.y) o)
     ]
-  where
-    above : (n : ℕ) → 0 < n → pos 0 <ℤ pos n
-    above n h = omega (arith, ints)
 
 -- ---- what keeps the lists apart keeps the segments off
 
@@ -89,23 +85,20 @@ mean_at vs W X Y h m = mix_hull_at vs (record { x = X; y = Y; d = W }) (record {
 weighted_off : (a b : List Pt) (w W : ℕ) (X Y : ℤ) → KeepsApart a b w → 0 < W → Mix (differences a b) W X Y → (pos (w * w) *ℤ (pos W *ℤ pos W)) ≤ℤ norm X Y
 weighted_off a b w W X Y k h m =
     let r = from_differences a b W X Y m in
-    finish (pos (w * w)) (pos W) r.px r.py r.qx r.qy X Y (above W h) r.x r.y
+    finish (pos (w * w)) (pos W) r.px r.py r.qx r.qy X Y (positive_natural W h) r.x r.y
     (shown w W ((r.qx *ℤ pos W) -ℤ (r.px *ℤ pos W)) ((r.qy *ℤ pos W) -ℤ (r.py *ℤ pos W))
     (k (record { x = r.px; y = r.py; d = W }) (record { x = r.qx; y = r.qy; d = W }) (omega arith) (omega arith) (mean_at a W r.px r.py h r.in_p) (mean_at b W r.qx r.qy h r.in_q)))
   where
-    above : (n : ℕ) → 0 < n → pos 0 <ℤ pos n
-    above n h = omega (arith, ints)
-
     finish : (S t p q P Q X Y : ℤ) → pos 0 <ℤ t → X ≡ p -ℤ P → Y ≡ q -ℤ Q → (S *ℤ ((t *ℤ t) *ℤ (t *ℤ t))) ≤ℤ norm ((P *ℤ t) -ℤ (p *ℤ t)) ((Q *ℤ t) -ℤ (q *ℤ t)) → (S *ℤ (t *ℤ t)) ≤ℤ norm X Y
     finish S t p q P Q X Y ht e f o =
-        le_of _ _ (part_ok (t *ℤ t) (norm X Y -ℤ (S *ℤ (t *ℤ t))) (above_square t ht)
+        at_most_of_difference _ _ (factor_not_negative (t *ℤ t) (norm X Y -ℤ (S *ℤ (t *ℤ t))) (square_positive t ht)
         (subst (λ z. pos 0 ≤ℤ z)
         (ring (S ∷ t ∷ p ∷ q ∷ P ∷ Q ∷ [])
         (((((var 4 ⊗ var 1) ⊖ (var 2 ⊗ var 1)) ⊗ ((var 4 ⊗ var 1) ⊖ (var 2 ⊗ var 1))) ⊕ (((var 5 ⊗ var 1) ⊖ (var 3 ⊗ var 1)) ⊗ ((var 5 ⊗ var 1) ⊖ (var 3 ⊗ var 1)))) ⊖ (var 0 ⊗ ((var 1 ⊗ var 1) ⊗ (var 1 ⊗ var 1))))
         ((var 1 ⊗ var 1) ⊗ ((((var 2 ⊖ var 4) ⊗ (var 2 ⊖ var 4)) ⊕ ((var 3 ⊖ var 5) ⊗ (var 3 ⊖ var 5))) ⊖ (var 0 ⊗ (var 1 ⊗ var 1)))) refl
         ∙ ap (λ z. (t *ℤ t) *ℤ (((z *ℤ z) +ℤ ((q -ℤ Q) *ℤ (q -ℤ Q))) -ℤ (S *ℤ (t *ℤ t)))) (sym e)
         ∙ ap (λ z. (t *ℤ t) *ℤ (((X *ℤ X) +ℤ (z *ℤ z)) -ℤ (S *ℤ (t *ℤ t)))) (sym f))
-        (room _ _ o)))
+        (difference_not_negative _ _ o)))
 
 -- m times u and n times v
 two : (a b : List Pt) (u v : Pt) (m n : ℕ) → Includes (differences a b) u → Includes (differences a b) v → Mix (differences a b) (m + n) ((pos m *ℤ u.x) +ℤ (pos n *ℤ v.x)) ((pos m *ℤ u.y) +ℤ (pos n *ℤ v.y))
@@ -127,11 +120,11 @@ stays_off a b w u v k iu iv (negsuc m) c ha hb = absurd (omega (arith, ints))
 stays_off a b w u v k iu iv (pos zero) (negsuc n) ha hb = absurd (omega (arith, ints))
 stays_off a b w u v k iu iv (pos (suc m)) (negsuc n) ha hb = absurd (omega (arith, ints))
 
--- where the lists are apart, the root of the least span of two differences is the gap
-pub gap_apart : (a b : List Pt) (n w : ℕ) → (Meets0 (differences a b) → ⊥) → IsLeastSpan (differences a b) n → IsRootFloor n w → IsGreatest (KeepsApart a b) w
+-- where the lists are apart, the root of the least clearance of two differences is the gap
+pub gap_apart : (a b : List Pt) (n w : ℕ) → (Meets0 (differences a b) → ⊥) → IsLeastClearance (differences a b) n → IsRootFloor n w → IsGreatest (KeepsApart a b) w
 gap_apart a b n w never s r = record {
   holds = keeps_apart a b w never (λ u v i j. off_down u v n (w * w) (s.all u v i j) r.low);
-  greatest = λ q k. let (u, v, i, j, span) = s.one in root_order n w q (span.greatest (q * q) (stays_off a b q u v k i j)) r.high;
+  greatest = λ q k. let (u, v, i, j, clearance) = s.one in root_order n w q (clearance.greatest (q * q) (stays_off a b q u v k i j)) r.high;
 }
 
 -- where they meet, it is 0

@@ -8,12 +8,12 @@ use Rattle.spot_terms.specs.Lists.{Includes}
 use Rattle.spot_terms.specs.Whole.{IsRootFloor}
 use Rattle.spot_terms.specs.declared.plain.Pt.{Pt}
 use Rattle.spot_terms.proofs.ListLemmas.{all_of}
+use Rattle.spot_terms.proofs.Orders.{below_or_at_least}
 use Rattle.convex_poly.specs.Pivots.{AreDisjoint, minus, differences}
 use Rattle.convex_poly.specs.Polygons.{IsPolygon}
 use Rattle.convex_poly.proofs.Corners.{pt_same}
 use Rattle.convex_poly.proofs.Disjoint.{meets_common, differences_hold, disjoint_or_meets}
-use Rattle.convex_poly.proofs.Places.{order}
-use Rattle.lane_paths.specs.Spans.{IsSmall, IsLeastSpan}
+use Rattle.lane_paths.specs.Clearances.{IsSmall, IsLeastClearance}
 use Rattle.lane_paths.proofs.GapLaws.{gap_apart, gap_meets}
 
 -- the difference of two points as the code computes it
@@ -32,14 +32,14 @@ near_small : (p q : Pt) → (IsFarFrom p q → ⊥) → IsSmall (minus p q)
 near_small p q h = record { x = near (nat_abs (p.x -ℤ q.x)) (λ l. h (inl l)); y = near (nat_abs (p.y -ℤ q.y)) (λ l. h (inr l)) }
   where
     near : (n : ℕ) → (1_000_000_000 < n → ⊥) → n ≤ 1_000_000_000
-    near n g = elim (order 1_000_000_000 n) [ inl l ↦ absurd (g l) | inr k ↦ k ]
+    near n g = elim (below_or_at_least 1_000_000_000 n) [ inl l ↦ absurd (g l) | inr k ↦ k ]
 
--- so are the ways from all of b to one of a, and all differences
+-- so are the vectors from all of b to one of a, and all differences
 pub near_ways : (a b : List Pt) (p : Pt) → (AreFar a b → ⊥) → Includes a p → (q : Pt) → Includes b q → IsSmall (minus p q)
 near_ways a b p h i q j = near_small p q (λ f. h (p, q, i, j, f))
 
-pub near_differences : (a b ways : List Pt) → ways ≡ differences a b → (AreFar a b → ⊥) → AllByRecursion IsSmall ways
-near_differences a b ways e h = subst (AllByRecursion IsSmall) (sym e) (all_of IsSmall (differences a b) (differences_hold IsSmall a b (λ p q i j. near_ways a b p h i q j)))
+pub near_differences : (a b vectors : List Pt) → vectors ≡ differences a b → (AreFar a b → ⊥) → AllByRecursion IsSmall vectors
+near_differences a b vectors e h = subst (AllByRecursion IsSmall) (sym e) (all_of IsSmall (differences a b) (differences_hold IsSmall a b (λ p q i j. near_ways a b p h i q j)))
 
 -- a polygon has a corner
 some_corners : (corners : List Pt) → IsPolygon corners → 0 < length corners
@@ -56,10 +56,10 @@ gap_far a b f = inl (f, refl)
 pub gap_common : (a b : List Pt) → IsPolygon a → IsPolygon b → (AreFar a b → ⊥) → (AreDisjoint a b → ⊥) → IsGap a b 0
 gap_common a b is_a is_b near h = inr (near, gap_meets a b (elim (disjoint_or_meets a b (some_corners a is_a) (some_corners b is_b)) [ inl d ↦ absurd (h d) | inr m ↦ m ]))
 
--- where they have none, it is the root of the least span; the corners that a call hands over are those of the polygon
-pub gap_least : (a b us vs : List Pt) (n w : ℕ) → us ≡ a → vs ≡ b → (AreFar a b → ⊥) → AreDisjoint a b → IsLeastSpan (differences us vs) n → IsRootFloor n w → IsGap a b w
+-- where they have none, it is the root of the least clearance; the corners that a call hands over are those of the polygon
+pub gap_least : (a b us vs : List Pt) (n w : ℕ) → us ≡ a → vs ≡ b → (AreFar a b → ⊥) → AreDisjoint a b → IsLeastClearance (differences us vs) n → IsRootFloor n w → IsGap a b w
 gap_least a b us vs n w e f near d s r = inr (
   near,
   gap_apart a b n w (λ m. let c = meets_common a b m in d c.p c.whole c.in_a c.in_b)
-      (subst (λ (l : List Pt). IsLeastSpan (differences a l) n) f (subst (λ (l : List Pt). IsLeastSpan (differences l vs) n) e s)) r,
+      (subst (λ (l : List Pt). IsLeastClearance (differences a l) n) f (subst (λ (l : List Pt). IsLeastClearance (differences l vs) n) e s)) r,
 )

@@ -60,6 +60,13 @@ get_take (y ∷ xs) zero i x h = absurd (none-some x h)
 get_take (y ∷ xs) (suc n) zero x h = (omega arith, h)
 get_take (y ∷ xs) (suc n) (suc i) x h = let (l, e) = get_take xs n i x h in (omega (arith, l), e)
 
+-- and the front has what the list has there
+pub get_of_take : {X : Type 0} (xs : List X) (n i : ℕ) (x : X) → i < n → slice_get xs i ≡ Some x → slice_get (take n xs) i ≡ Some x
+get_of_take xs zero i x l h = absurd (omega (arith, l))
+get_of_take [] (suc n) i x l h = h
+get_of_take (y ∷ xs) (suc n) zero x l h = h
+get_of_take (y ∷ xs) (suc n) (suc i) x l h = get_of_take xs n i x (omega (arith, l)) h
+
 -- each place below the length has an item
 pub there : {X : Type 0} (xs : List X) (i : ℕ) → i < length xs → (x : X) × (slice_get xs i ≡ Some x)
 there [] i h = absurd (omega arith)
@@ -69,13 +76,3 @@ there (x ∷ xs) (suc i) h = there xs i (omega arith)
 -- a list whose items were all written anew
 pub written : {X : Type 0} (n : ℕ) (xs ys : List X) → n ≡ length ys → length xs ≡ length ys → take n (xs ++ drop (length xs) ys) ≡ xs
 written n xs ys e f = subst (λ (z : List _). take n (xs ++ z) ≡ xs) (sym (drop_all (length xs) ys (omega (arith, f)))) (subst (λ (z : List _). take n z ≡ xs) (sym (append-nil xs)) (take_all n xs (omega (arith, e, f))))
-
--- ---- numbers
-
--- a number below k + 1
-pub below_or_here : (a k : ℕ) → a < k + 1 → (a < k) ⊎ (a ≡ k)
-below_or_here a k h = grind arith
-
--- what is below k is below k + 1
-pub one_more : (a k : ℕ) → a < k → a < k + 1
-one_more a k h = omega arith

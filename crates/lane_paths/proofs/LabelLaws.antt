@@ -3,22 +3,22 @@ use Rattle.std.proofs.Common.{◌≡◌, ℕ, ◌+◌, ◌≤◌, ◌<◌, arith
 use Rattle.std.specs.Prelude.{slice_get, Some, None, Option}
 use Rattle.std.proofs.lemmas.List.{length-take-le}
 use Rattle.std.proofs.lemmas.Option.{slice_get_within, none-some, same_Some}
-use Rattle.convex_poly.proofs.Places.{order}
 use Rattle.spot_terms.specs.declared.plain.Pt.{Pt}
 use Rattle.spot_terms.specs.Cells.{Lane, NetCell, cells, corners_of}
 use Rattle.spot_terms.specs.Gaps.{IsGap}
 use Rattle.spot_terms.specs.Lists.{Includes}
 use Rattle.spot_terms.specs.Network.{IsSide}
 use Rattle.spot_terms.specs.Routes.{IsRoute, IsStartCell}
+use Rattle.spot_terms.proofs.Orders.{below_or_at_least}
 use Rattle.lane_paths.specs.Walks.{IsWalk, entry_of}
 use Rattle.lanelets.specs.Beside.{here}
-use Rattle.lane_paths.specs.Reaches.{Edge, IsReached, at_first, along, HasAtMost, IsSettled, AreFirst}
+use Rattle.lane_paths.specs.Edges.{Edge, IsPathLength, at_first, by_edge, HasAtMost, IsSettled, AreFirst}
 use Rattle.lane_paths.specs.Waypoints.{entry_at, start_at, Leaves, from_start, from_entry, Enters, to_end, to_entry, IsLink, LinksFromStart}
-use Rattle.lane_paths.specs.declared.search.Search.{Search}
-use Rattle.lane_paths.specs.Searches.{AreSettled, HasPlaces, IsUnderWay, Spreads}
-use Rattle.lane_paths.proofs.SearchLaws.{started}
-use Rattle.lane_paths.specs.Labels.{AreLabels}
-use Rattle.lane_paths.proofs.Items.{get_take, there}
+use Rattle.lane_paths.specs.declared.shortest_lengths.ShortestLengths.{ShortestLengths}
+use Rattle.lane_paths.specs.Relaxations.{AreSettled, HasPlaces, IsUnderWay, Relaxes}
+use Rattle.lane_paths.proofs.ShortestLengthLaws.{started}
+use Rattle.lane_paths.specs.Labels.{AreLabels, label_at, label_of}
+use Rattle.lane_paths.proofs.Items.{get_take, get_of_take, there}
 use Rattle.lanelets.proofs.BesideLaws.{beside_on}
 use Rattle.lane_paths.proofs.WalkLaws.{same_cell, walk_started, walk_beside, walk_ahead, walk_route, IsClosed, closed_knows}
 
@@ -63,15 +63,15 @@ way_enters lanes p c _ m g w _ (to_entry d a s h) k i =
     }
 
 -- what is reached along links is the length of a way
-reached_way : (lanes : List Lane) (p : Pt) (limit : ℕ) (first : List (Option ℕ)) (i m : ℕ) → AreFirst (length (cells lanes)) first → IsReached (IsLink lanes p) limit first i m → IsWayTo lanes p i m
+reached_way : (lanes : List Lane) (p : Pt) (limit : ℕ) (first : List (Option ℕ)) (i m : ℕ) → AreFirst (length (cells lanes)) first → IsPathLength (IsLink lanes p) limit first i m → IsWayTo lanes p i m
 reached_way lanes p limit first i m f (at_first _ _ g) = let (e, z) = f.only i m g in way_at_first lanes p i m e z
-reached_way lanes p limit first _ _ f (along e m (c, l) r low) =
+reached_way lanes p limit first _ _ f (by_edge e m (c, l) r low) =
     way_enters lanes p c e.to m e.gap l.w l.v l.enters (way_leaves lanes p c e.from m l.w l.leaves (reached_way lanes p limit first e.from m f r)) l.gap
 
 -- what isn't the start is reached along an edge, so within the limit
-reached_low : (lanes : List Lane) (p : Pt) (n limit : ℕ) (first : List (Option ℕ)) (i m : ℕ) → AreFirst n first → IsReached (IsLink lanes p) limit first i m → i < n → m ≤ limit
+reached_low : (lanes : List Lane) (p : Pt) (n limit : ℕ) (first : List (Option ℕ)) (i m : ℕ) → AreFirst n first → IsPathLength (IsLink lanes p) limit first i m → i < n → m ≤ limit
 reached_low lanes p n limit first i m f (at_first _ _ g) l = absurd (let h = (f.only i m g).0 in omega (arith, h, l))
-reached_low lanes p n limit first _ _ f (along e m j r low) l = low
+reached_low lanes p n limit first _ _ f (by_edge e m j r low) l = low
 
 -- ---- where all links are settled, no way is unknown
 
@@ -119,31 +119,44 @@ route_known lanes p limit lengths d n s start r low =
 
 -- ---- labels
 
+-- a label stands in the list
+pub label_there : (labels : List (Option ℕ)) (c n : ℕ) → label_at labels c ≡ Some n → slice_get labels c ≡ Some (Some n)
+label_there labels c n = there_of (slice_get labels c)
+  where
+    there_of : (o : Option (Option ℕ)) → label_of o ≡ Some n → o ≡ Some (Some n)
+    there_of None e = absurd (none-some n e)
+    there_of (Some o) e = ap (λ (z : Option ℕ). Some z) e
+
+-- and what stands there is a label
+pub label_here : (labels : List (Option ℕ)) (c n : ℕ) → slice_get labels c ≡ Some (Some n) → label_at labels c ≡ Some n
+label_here labels c n e = ap label_of e
+
 -- the lengths of the cells, once the links are settled
 pub settled_labels : (lanes : List Lane) (p : Pt) (limit : ℕ) (first lengths : List (Option ℕ)) → length (cells lanes) ≤ length lengths → AreFirst (length (cells lanes)) first → AreSettled lanes p limit first lengths
     → AreLabels lanes p limit (take (length (cells lanes)) lengths)
 settled_labels lanes p limit first lengths long f done = record {
   count = count_take lengths (length (cells lanes)) long;
   some = λ c n h.
-      let (inside, is) = get_take lengths (length (cells lanes)) c (Some n) h in
+      let (inside, is) = get_take lengths (length (cells lanes)) c (Some n) (label_there (take (length (cells lanes)) lengths) c n h) in
       let (a, a_is) = there (cells lanes) c inside in
       let r = done.made.reached c n is in
       let low : n ≤ limit = reached_low lanes p (length (cells lanes)) limit first c n f r inside in (
         record {
           holds = (reached_way lanes p limit first c n f r).«end» c a refl a_is;
-          least = λ q route. elim (order limit q) [
+          least = λ q route. elim (below_or_at_least limit q) [
             | inl past ↦ omega (arith, low, past)
             | inr within ↦ let (m, m_is, m_most) = route_known lanes p limit lengths c q done.settled start route within in let same : n ≡ m = same_Some n m (same_Some (Some n) (Some m) (sym is ∙ m_is)) in omega (arith, same, m_most)
           ];
         },
         low,
       );
-  none = λ c h n route.
-      let (inside, is) = get_take lengths (length (cells lanes)) c None h in
-      elim (order limit n) [
-        | inl past ↦ past
-        | inr within ↦ let (m, m_is, m_most) = route_known lanes p limit lengths c n done.settled start route within in absurd (none-some m (same_Some None (Some m) (sym is ∙ m_is)))
-      ];
+  none = λ c h n route. elim (below_or_at_least limit n) [
+    | inl past ↦ past
+    | inr within ↦
+        let (m, m_is, m_most) = route_known lanes p limit lengths c n done.settled start route within in
+        let inside = slice_get_within (cells lanes) c route.last route.last_is in
+        absurd (none-some m (sym h ∙ label_here (take (length (cells lanes)) lengths) c m (get_of_take lengths (length (cells lanes)) c (Some m) inside m_is)))
+  ];
 }
   where
     start : HasAtMost lengths (start_at lanes p) 0
@@ -153,7 +166,7 @@ settled_labels lanes p limit first lengths long f done = record {
     count_take xs n h = length-take-le n xs h
 
 -- the places of a search that begins
-pub begun_places : (lanes : List Lane) (n : ℕ) (s : Search) → s.count ≡ n → n ≡ length (cells lanes) → AreFirst n s.lengths.items → s.pending ≡ [] → HasPlaces lanes s
+pub begun_places : (lanes : List Lane) (n : ℕ) (s : ShortestLengths) → s.count ≡ n → n ≡ length (cells lanes) → AreFirst n s.lengths.items → s.frontier ≡ [] → HasPlaces lanes s
 begun_places lanes n s count same begun none = record {
   count_is = count ∙ same;
   many = begun.count ∙ ap (λ (z : ℕ). z + z + 1) (sym count);
@@ -161,8 +174,8 @@ begun_places lanes n s count same begun none = record {
 }
 
 -- the labels of a whole search
-pub search_labels : (lanes : List Lane) (p : Pt) (limit n : ℕ) (starts : List ℕ) (a b c : Search) (labels : List (Option ℕ)) → a.count ≡ n → n ≡ length (cells lanes) → a.limit ≡ limit → AreFirst n a.lengths.items → a.pending ≡ []
-    → ((s : ℕ) → IsStartCell lanes p s → Includes starts s) → Spreads (LinksFromStart lanes p starts) 0 a b → ((q : Pt) (first : List (Option ℕ)) → IsUnderWay lanes q first b → AreSettled lanes q b.limit first c.lengths.items)
+pub search_labels : (lanes : List Lane) (p : Pt) (limit n : ℕ) (starts : List ℕ) (a b c : ShortestLengths) (labels : List (Option ℕ)) → a.count ≡ n → n ≡ length (cells lanes) → a.limit ≡ limit → AreFirst n a.lengths.items → a.frontier ≡ []
+    → ((s : ℕ) → IsStartCell lanes p s → Includes starts s) → Relaxes (LinksFromStart lanes p starts) 0 a b → ((q : Pt) (first : List (Option ℕ)) → IsUnderWay lanes q first b → AreSettled lanes q b.limit first c.lengths.items)
     → HasPlaces lanes c → labels ≡ take c.count c.lengths.items → AreLabels lanes p limit labels
 search_labels lanes p limit n starts a b c labels count same limit_is begun none every g h places is =
     let under = started lanes p starts a b every (begun_places lanes n a count same begun none) (subst (λ (z : ℕ). AreFirst z a.lengths.items) (sym count) begun) g in

@@ -2,7 +2,7 @@
 use Rattle.std.proofs.Common.{◌≡◌, inl, inr, ℕ, ◌+◌, arith, refl, sym, ◌∙◌, subst, List, [], ◌∷◌, ◌++◌, length, length-append}
 use Rattle.std.specs.Prelude.{slice_get, Some, None, Option}
 use Rattle.std.proofs.lemmas.Option.{none-some, same_Some}
-use Rattle.lane_paths.specs.Reaches.{AreFirst}
+use Rattle.lane_paths.specs.Edges.{AreFirst}
 use Rattle.lane_paths.proofs.Items.{get_last, get_either}
 
 -- an empty list has no length

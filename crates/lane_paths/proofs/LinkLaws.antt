@@ -18,13 +18,13 @@ use Rattle.spot_terms.proofs.Hulls.{hull_flat, hulls_of}
 use Rattle.spot_terms.proofs.ListLemmas.{includes_back, includes_front, includes_itself, includes_taken}
 use Rattle.lanelets.specs.Beside.{IsBeside, here}
 use Rattle.lanelets.proofs.BesideLaws.{beside_join}
-use Rattle.lane_paths.specs.declared.search.Search.{Search}
-use Rattle.lane_paths.specs.declared.search.Waypoint.{Waypoint}
+use Rattle.lane_paths.specs.declared.shortest_lengths.ShortestLengths.{ShortestLengths}
+use Rattle.lane_paths.specs.declared.shortest_lengths.Waypoint.{Waypoint}
 use Rattle.lane_paths.specs.Walks.{entry_of}
-use Rattle.lane_paths.specs.Reaches.{Edge}
-use Rattle.lane_paths.specs.Searches.{Spreads, StepsTo}
+use Rattle.lane_paths.specs.Edges.{Edge}
+use Rattle.lane_paths.specs.Relaxations.{Relaxes, StepsTo}
 use Rattle.lane_paths.specs.Waypoints.{entry_at, start_at, Leaves, from_start, from_entry, Enters, to_end, to_entry, IsWaypoint, LinksOf, LinksFrom, LinksTo, LinksToEntries, LinksInCells, LinksBeside, LinksFromStart}
-use Rattle.lane_paths.proofs.SpreadLaws.{spreads_as, spreads_then}
+use Rattle.lane_paths.proofs.RelaxLaws.{relaxes_as, relaxes_then}
 use Rattle.lane_paths.proofs.WalkLaws.{same_cell}
 
 -- ---- a number has one waypoint
@@ -55,9 +55,9 @@ waypoint_beside lanes p i c s x (w, l, h) b = (w, leaves_beside lanes p c s i w 
 -- ---- one link
 
 -- the step to points with the hull of waypoint j is the link to it
-stepped : (lanes : List Lane) (p : Pt) (i c j : ℕ) (x : Waypoint) (v shape : List Pt) (before after : Search) → IsWaypoint lanes p i c x → Enters lanes p c j v → AllByRecursion (Includes v) shape → AllByRecursion (InHull shape) v
-    → Spreads (StepsTo i j x.shape shape) x.way before after → Spreads (LinksTo lanes p i c j) x.way before after
-stepped lanes p i c j x v shape before after (w, l, h) n among covers g = spreads_as (StepsTo i j x.shape shape) (LinksTo lanes p i c j) x.way before after g
+stepped : (lanes : List Lane) (p : Pt) (i c j : ℕ) (x : Waypoint) (v shape : List Pt) (before after : ShortestLengths) → IsWaypoint lanes p i c x → Enters lanes p c j v → AllByRecursion (Includes v) shape → AllByRecursion (InHull shape) v
+    → Relaxes (StepsTo i j x.shape shape) x.length before after → Relaxes (LinksTo lanes p i c j) x.length before after
+stepped lanes p i c j x v shape before after (w, l, h) n among covers g = relaxes_as (StepsTo i j x.shape shape) (LinksTo lanes p i c j) x.length before after g
     (λ e (from, to, gap). (
       to,
       (
@@ -78,24 +78,24 @@ stepped lanes p i c j x v shape before after (w, l, h) n among covers g = spread
     (from, to, same_gap x.shape shape w v e.gap (hulls_of x.shape w h.among) h.covers (hulls_of shape v among) covers is))
 
 -- the link to a cell where the route ends
-pub stepped_end : (lanes : List Lane) (p : Pt) (i c : ℕ) (x : Waypoint) (a : NetCell) (shape : List Pt) (before after : Search) → IsWaypoint lanes p i c x → slice_get (cells lanes) c ≡ Some a → IsHullOf (corners_of a) shape
-    → Spreads (StepsTo i c x.shape shape) x.way before after → Spreads (LinksTo lanes p i c c) x.way before after
+pub stepped_end : (lanes : List Lane) (p : Pt) (i c : ℕ) (x : Waypoint) (a : NetCell) (shape : List Pt) (before after : ShortestLengths) → IsWaypoint lanes p i c x → slice_get (cells lanes) c ≡ Some a → IsHullOf (corners_of a) shape
+    → Relaxes (StepsTo i c x.shape shape) x.length before after → Relaxes (LinksTo lanes p i c c) x.length before after
 stepped_end lanes p i c x a shape before after w is k g = stepped lanes p i c c x (corners_of a) shape before after w (to_end a is) k.among k.covers g
 
 -- the link to an entry, by its hull
-pub stepped_entry : (lanes : List Lane) (p : Pt) (i c d n : ℕ) (x : Waypoint) (a : NetCell) (entry : Portal) (shape : List Pt) (before after : Search) → n ≡ length (cells lanes) → IsWaypoint lanes p i c x → IsAhead lanes (cells lanes) c d
-    → slice_get (cells lanes) d ≡ Some a → entry ≡ a.entry → IsHullOf (entry.0 ∷ entry.1 ∷ []) shape → Spreads (StepsTo i (n + d) x.shape shape) x.way before after → Spreads (LinksTo lanes p i c (entry_at lanes p d)) x.way before after
+pub stepped_entry : (lanes : List Lane) (p : Pt) (i c d n : ℕ) (x : Waypoint) (a : NetCell) (entry : Portal) (shape : List Pt) (before after : ShortestLengths) → n ≡ length (cells lanes) → IsWaypoint lanes p i c x → IsAhead lanes (cells lanes) c d
+    → slice_get (cells lanes) d ≡ Some a → entry ≡ a.entry → IsHullOf (entry.0 ∷ entry.1 ∷ []) shape → Relaxes (StepsTo i (n + d) x.shape shape) x.length before after → Relaxes (LinksTo lanes p i c (entry_at lanes p d)) x.length before after
 stepped_entry lanes p i c d n x a entry shape before after same w s is e k g =
     let hull : IsHullOf (entry_of a) shape = subst (λ (z : Portal). IsHullOf (z.0 ∷ z.1 ∷ []) shape) e k in
     stepped lanes p i c (entry_at lanes p d) x (entry_of a) shape before after w (to_entry d a s is) hull.among hull.covers
-    (subst (λ (z : ℕ). Spreads (StepsTo i (z + d) x.shape shape) x.way before after) same g)
+    (subst (λ (z : ℕ). Relaxes (StepsTo i (z + d) x.shape shape) x.length before after) same g)
 
 -- and by its points
-pub stepped_points : (lanes : List Lane) (p : Pt) (i c d n : ℕ) (x : Waypoint) (a : NetCell) (entry : Portal) (before after : Search) → n ≡ length (cells lanes) → IsWaypoint lanes p i c x → IsAhead lanes (cells lanes) c d
-    → slice_get (cells lanes) d ≡ Some a → entry ≡ a.entry → Spreads (StepsTo i (n + d) x.shape (entry.0 ∷ entry.1 ∷ [])) x.way before after → Spreads (LinksTo lanes p i c (entry_at lanes p d)) x.way before after
+pub stepped_points : (lanes : List Lane) (p : Pt) (i c d n : ℕ) (x : Waypoint) (a : NetCell) (entry : Portal) (before after : ShortestLengths) → n ≡ length (cells lanes) → IsWaypoint lanes p i c x → IsAhead lanes (cells lanes) c d
+    → slice_get (cells lanes) d ≡ Some a → entry ≡ a.entry → Relaxes (StepsTo i (n + d) x.shape (entry.0 ∷ entry.1 ∷ [])) x.length before after → Relaxes (LinksTo lanes p i c (entry_at lanes p d)) x.length before after
 stepped_points lanes p i c d n x a entry before after same w s is e g =
     stepped lanes p i c (entry_at lanes p d) x (entry_of a) (entry_of a) before after w (to_entry d a s is) (includes_itself (entry_of a)) (hulls_of (entry_of a) (entry_of a) (includes_itself (entry_of a)))
-    (subst (λ (z : Portal). Spreads (StepsTo i (entry_at lanes p d) x.shape (z.0 ∷ z.1 ∷ [])) x.way before after) e (subst (λ (z : ℕ). Spreads (StepsTo i (z + d) x.shape (entry.0 ∷ entry.1 ∷ [])) x.way before after) same g))
+    (subst (λ (z : Portal). Relaxes (StepsTo i (entry_at lanes p d) x.shape (z.0 ∷ z.1 ∷ [])) x.length before after) e (subst (λ (z : ℕ). Relaxes (StepsTo i (z + d) x.shape (entry.0 ∷ entry.1 ∷ [])) x.length before after) same g))
 
 -- ---- the links in a cell
 
@@ -112,10 +112,10 @@ pub no_entries : (lanes : List Lane) (p : Pt) (i c : ℕ) (e : Edge) → LinksTo
 no_entries lanes p i c e h = h.1
 
 -- the entry of one more cell
-pub entries_more : (lanes : List Lane) (p : Pt) (i c k m : ℕ) (ahead : List ℕ) (first before after : Search) → k < length ahead → Spreads (LinksToEntries lanes p i c (take k ahead)) m first before
-    → Spreads (LinksTo lanes p i c (entry_at lanes p (get_or ahead k 0))) m before after → Spreads (LinksToEntries lanes p i c (take (k + 1) ahead)) m first after
+pub entries_more : (lanes : List Lane) (p : Pt) (i c k m : ℕ) (ahead : List ℕ) (first before after : ShortestLengths) → k < length ahead → Relaxes (LinksToEntries lanes p i c (take k ahead)) m first before
+    → Relaxes (LinksTo lanes p i c (entry_at lanes p (get_or ahead k 0))) m before after → Relaxes (LinksToEntries lanes p i c (take (k + 1) ahead)) m first after
 entries_more lanes p i c k m ahead first before after inside g h =
-    spreads_then (LinksToEntries lanes p i c (take k ahead)) (LinksTo lanes p i c (entry_at lanes p (get_or ahead k 0))) (LinksToEntries lanes p i c (take (k + 1) ahead)) m first before after g h
+    relaxes_then (LinksToEntries lanes p i c (take k ahead)) (LinksTo lanes p i c (entry_at lanes p (get_or ahead k 0))) (LinksToEntries lanes p i c (take (k + 1) ahead)) m first before after g h
     (λ e (f, j, t, l). (f, taken_front ahead k f inside j, t, l))
     (λ e (t, l). (get_or ahead k 0, taken_last ahead k inside, t, l))
     (λ e (f, j, t, l). elim (includes_taken ahead k 0 f inside j) [
@@ -124,8 +124,8 @@ entries_more lanes p i c k m ahead first before after inside g h =
     ])
 
 -- past the last one all were gone to
-pub entries_all : (lanes : List Lane) (p : Pt) (i c k m : ℕ) (ahead : List ℕ) (first now : Search) → length ahead ≤ k → Spreads (LinksToEntries lanes p i c (take k ahead)) m first now → Spreads (LinksToEntries lanes p i c ahead) m first now
-entries_all lanes p i c k m ahead first now h g = subst (λ (z : List ℕ). Spreads (LinksToEntries lanes p i c z) m first now) (take_all k ahead h) g
+pub entries_all : (lanes : List Lane) (p : Pt) (i c k m : ℕ) (ahead : List ℕ) (first now : ShortestLengths) → length ahead ≤ k → Relaxes (LinksToEntries lanes p i c (take k ahead)) m first now → Relaxes (LinksToEntries lanes p i c ahead) m first now
+entries_all lanes p i c k m ahead first now h g = subst (λ (z : List ℕ). Relaxes (LinksToEntries lanes p i c z) m first now) (take_all k ahead h) g
 
 -- what is entered is the cell itself, or an entry ahead
 end_or_entry : (lanes : List Lane) (p : Pt) (c j : ℕ) (v : List Pt) → Enters lanes p c j v → (j ≡ c) ⊎ ((d : ℕ) × IsAhead lanes (cells lanes) c d × (j ≡ entry_at lanes p d))
@@ -133,10 +133,10 @@ end_or_entry lanes p c _ _ (to_end a g) = inl refl
 end_or_entry lanes p c _ _ (to_entry d a s g) = inr (d, s, refl)
 
 -- all links in a cell
-pub cell_links : (lanes : List Lane) (p : Pt) (i c m : ℕ) (ahead : List ℕ) (first before after : Search) → ((d : ℕ) → IsAhead lanes (cells lanes) c d → Includes ahead d) → Spreads (LinksTo lanes p i c c) m first before
-    → Spreads (LinksToEntries lanes p i c ahead) m before after → Spreads (LinksFrom lanes p i c) m first after
+pub cell_links : (lanes : List Lane) (p : Pt) (i c m : ℕ) (ahead : List ℕ) (first before after : ShortestLengths) → ((d : ℕ) → IsAhead lanes (cells lanes) c d → Includes ahead d) → Relaxes (LinksTo lanes p i c c) m first before
+    → Relaxes (LinksToEntries lanes p i c ahead) m before after → Relaxes (LinksFrom lanes p i c) m first after
 cell_links lanes p i c m ahead first before after every g h =
-    spreads_then (LinksTo lanes p i c c) (LinksToEntries lanes p i c ahead) (LinksFrom lanes p i c) m first before after g h
+    relaxes_then (LinksTo lanes p i c c) (LinksToEntries lanes p i c ahead) (LinksFrom lanes p i c) m first before after g h
     (λ e (t, l). l)
     (λ e (d, j, t, l). l)
     (λ e l. elim (end_or_entry lanes p c e.to l.1.v l.1.enters) [
@@ -151,10 +151,10 @@ pub no_beside : (lanes : List Lane) (p : Pt) (i : ℕ) (e : Edge) → LinksInCel
 no_beside lanes p i e h = h.1
 
 -- the links in one more cell
-pub beside_more : (lanes : List Lane) (p : Pt) (i k m : ℕ) (some : List ℕ) (first before after : Search) → k < length some → Spreads (LinksInCells lanes p i (take k some)) m first before → Spreads (LinksFrom lanes p i (get_or some k 0)) m before after
-    → Spreads (LinksInCells lanes p i (take (k + 1) some)) m first after
+pub beside_more : (lanes : List Lane) (p : Pt) (i k m : ℕ) (some : List ℕ) (first before after : ShortestLengths) → k < length some → Relaxes (LinksInCells lanes p i (take k some)) m first before → Relaxes (LinksFrom lanes p i (get_or some k 0)) m before after
+    → Relaxes (LinksInCells lanes p i (take (k + 1) some)) m first after
 beside_more lanes p i k m some first before after inside g h =
-    spreads_then (LinksInCells lanes p i (take k some)) (LinksFrom lanes p i (get_or some k 0)) (LinksInCells lanes p i (take (k + 1) some)) m first before after g h
+    relaxes_then (LinksInCells lanes p i (take k some)) (LinksFrom lanes p i (get_or some k 0)) (LinksInCells lanes p i (take (k + 1) some)) m first before after g h
     (λ e (c, j, l). (c, taken_front some k c inside j, l))
     (λ e l. (get_or some k 0, taken_last some k inside, l))
     (λ e (c, j, l). elim (includes_taken some k 0 c inside j) [
@@ -163,9 +163,9 @@ beside_more lanes p i k m some first before after inside g h =
     ])
 
 -- past the last one these are the links in all cells to which side moves lead
-pub beside_all : (lanes : List Lane) (p : Pt) (i s k m : ℕ) (some : List ℕ) (first now : Search) → length some ≤ k → Lists (λ c. IsBeside lanes (cells lanes) c s) some → Spreads (LinksInCells lanes p i (take k some)) m first now → Spreads (LinksBeside lanes p i s) m first now
+pub beside_all : (lanes : List Lane) (p : Pt) (i s k m : ℕ) (some : List ℕ) (first now : ShortestLengths) → length some ≤ k → Lists (λ c. IsBeside lanes (cells lanes) c s) some → Relaxes (LinksInCells lanes p i (take k some)) m first now → Relaxes (LinksBeside lanes p i s) m first now
 beside_all lanes p i s k m some first now h lists g =
-    spreads_as (LinksInCells lanes p i some) (LinksBeside lanes p i s) m first now (subst (λ (z : List ℕ). Spreads (LinksInCells lanes p i z) m first now) (take_all k some h) g)
+    relaxes_as (LinksInCells lanes p i some) (LinksBeside lanes p i s) m first now (subst (λ (z : List ℕ). Relaxes (LinksInCells lanes p i z) m first now) (take_all k some h) g)
     (λ e (c, j, l). (c, lists.each c j, l))
     (λ e (c, b, l). (c, lists.all c b, l))
 
@@ -177,10 +177,10 @@ entry_cell lanes p c d _ _ l (from_start s k b) e = absurd (omega (arith, l, e))
 entry_cell lanes p c d _ _ l (from_entry f a g b) e = subst (λ (z : ℕ). IsBeside lanes (cells lanes) c z) (omega (arith, e)) b
 
 -- the links of the entry of a cell, of the waypoint as the code makes it
-pub entry_links : (lanes : List Lane) (p : Pt) (d m : ℕ) (a : NetCell) (entry : Portal) (shape : Poly) (before after : Search) → slice_get (cells lanes) d ≡ Some a → entry ≡ a.entry → IsHullOf (entry.0 ∷ entry.1 ∷ []) shape
-    → ((q : Pt) (i : ℕ) → IsWaypoint lanes q i d (record { cell = d; way = m; shape = shape }) → Spreads (LinksBeside lanes q i d) m before after) → Spreads (LinksOf lanes p (entry_at lanes p d)) m before after
+pub entry_links : (lanes : List Lane) (p : Pt) (d m : ℕ) (a : NetCell) (entry : Portal) (shape : Poly) (before after : ShortestLengths) → slice_get (cells lanes) d ≡ Some a → entry ≡ a.entry → IsHullOf (entry.0 ∷ entry.1 ∷ []) shape
+    → ((q : Pt) (i : ℕ) → IsWaypoint lanes q i d (record { cell = d; length = m; shape = shape }) → Relaxes (LinksBeside lanes q i d) m before after) → Relaxes (LinksOf lanes p (entry_at lanes p d)) m before after
 entry_links lanes p d m a entry shape before after cell e hull h =
-    spreads_as (LinksBeside lanes p (entry_at lanes p d) d) (LinksOf lanes p (entry_at lanes p d)) m before after
+    relaxes_as (LinksBeside lanes p (entry_at lanes p d) d) (LinksOf lanes p (entry_at lanes p d)) m before after
     (h p (entry_at lanes p d) (entry_of a, from_entry d a cell here, subst (λ (z : Portal). IsHullOf (z.0 ∷ z.1 ∷ []) shape) e hull))
     (λ x (c, b, (from, l)). (from, (c, l)))
     (λ x (from, (c, l)). (c, entry_cell lanes p c d x.from l.w (slice_get_within (cells lanes) d a cell) l.leaves from, (from, l)))
@@ -199,10 +199,10 @@ pub no_starts : (lanes : List Lane) (p : Pt) (e : Edge) → LinksFromStart lanes
 no_starts lanes p e h = h.3
 
 -- one more start cell
-starts_more : (lanes : List Lane) (p : Pt) (k : ℕ) (starts : List ℕ) (first before after : Search) → k < length starts → Spreads (LinksFromStart lanes p (take k starts)) 0 first before
-    → Spreads (LinksBeside lanes p (start_at lanes p) (get_or starts k 0)) 0 before after → Spreads (LinksFromStart lanes p (take (k + 1) starts)) 0 first after
+starts_more : (lanes : List Lane) (p : Pt) (k : ℕ) (starts : List ℕ) (first before after : ShortestLengths) → k < length starts → Relaxes (LinksFromStart lanes p (take k starts)) 0 first before
+    → Relaxes (LinksBeside lanes p (start_at lanes p) (get_or starts k 0)) 0 before after → Relaxes (LinksFromStart lanes p (take (k + 1) starts)) 0 first after
 starts_more lanes p k starts first before after inside g h =
-    spreads_then (LinksFromStart lanes p (take k starts)) (LinksBeside lanes p (start_at lanes p) (get_or starts k 0)) (LinksFromStart lanes p (take (k + 1) starts)) 0 first before after g h
+    relaxes_then (LinksFromStart lanes p (take k starts)) (LinksBeside lanes p (start_at lanes p) (get_or starts k 0)) (LinksFromStart lanes p (take (k + 1) starts)) 0 first before after g h
     (λ e (from, r, c, j, b, m). (from, r, c, taken_front starts k r inside j, b, m))
     (λ e (c, b, m). (m.0, get_or starts k 0, c, taken_last starts k inside, b, m.1))
     (λ e (from, r, c, j, b, m). elim (includes_taken starts k 0 r inside j) [
@@ -211,17 +211,17 @@ starts_more lanes p k starts first before after inside g h =
     ])
 
 -- the same, of the waypoint as the code makes it
-pub starts_step : (lanes : List Lane) (p : Pt) (k : ℕ) (starts : List ℕ) (shape : Poly) (first before after : Search) → k < length starts → AllByRecursion (IsStartCell lanes p) starts → IsHullOf (p ∷ []) shape
-    → Spreads (LinksFromStart lanes p (take k starts)) 0 first before
-    → ((q : Pt) (i : ℕ) → IsWaypoint lanes q i (get_or starts k 0) (record { cell = get_or starts k 0; way = 0; shape = shape }) → Spreads (LinksBeside lanes q i (get_or starts k 0)) 0 before after)
-    → Spreads (LinksFromStart lanes p (take (k + 1) starts)) 0 first after
+pub starts_step : (lanes : List Lane) (p : Pt) (k : ℕ) (starts : List ℕ) (shape : Poly) (first before after : ShortestLengths) → k < length starts → AllByRecursion (IsStartCell lanes p) starts → IsHullOf (p ∷ []) shape
+    → Relaxes (LinksFromStart lanes p (take k starts)) 0 first before
+    → ((q : Pt) (i : ℕ) → IsWaypoint lanes q i (get_or starts k 0) (record { cell = get_or starts k 0; length = 0; shape = shape }) → Relaxes (LinksBeside lanes q i (get_or starts k 0)) 0 before after)
+    → Relaxes (LinksFromStart lanes p (take (k + 1) starts)) 0 first after
 starts_step lanes p k starts shape first before after inside held hull g h =
     starts_more lanes p k starts first before after inside g
     (h p (start_at lanes p) (p ∷ [], from_start (get_or starts k 0) (all_at (IsStartCell lanes p) starts k 0 held inside) here, hull))
 
 -- past the last one all were gone from
-pub starts_all : (lanes : List Lane) (p : Pt) (k : ℕ) (starts : List ℕ) (first now : Search) → length starts ≤ k → Spreads (LinksFromStart lanes p (take k starts)) 0 first now → Spreads (LinksFromStart lanes p starts) 0 first now
-starts_all lanes p k starts first now h g = subst (λ (z : List ℕ). Spreads (LinksFromStart lanes p z) 0 first now) (take_all k starts h) g
+pub starts_all : (lanes : List Lane) (p : Pt) (k : ℕ) (starts : List ℕ) (first now : ShortestLengths) → length starts ≤ k → Relaxes (LinksFromStart lanes p (take k starts)) 0 first now → Relaxes (LinksFromStart lanes p starts) 0 first now
+starts_all lanes p k starts first now h g = subst (λ (z : List ℕ). Relaxes (LinksFromStart lanes p z) 0 first now) (take_all k starts h) g
 
 -- ---- start cells
 

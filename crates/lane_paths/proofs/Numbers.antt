@@ -8,7 +8,7 @@ use mir.Syntax.{w64}
 use mir.Val.{to_z, of_z}
 use Rattle.convex_poly.proofs.Wide.{product_within, small_back}
 
--- a product of two coordinates of ways
+-- a product of two coordinates of vectors
 pub product_is : (a b : ℤ) → nat_abs a ≤ 1_000_000_000 → nat_abs b ≤ 1_000_000_000 → to_z w64 (of_z w64 (to_z w64 (of_z w64 a) *ℤ to_z w64 (of_z w64 b))) ≡ a *ℤ b
 product_is a b h k =
     let within : nat_abs (a *ℤ b) ≤ 9_000_000_000_000_000_000 = omega (arith, product_within a b 1_000_000_000 1_000_000_000 h k) in

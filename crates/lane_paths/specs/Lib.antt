@@ -1,8 +1,8 @@
 -- The definitions, one module a concept.
-pub mod Spans
+pub mod Clearances
 pub mod Boxes
 pub mod Walks
-pub mod Reaches
+pub mod Edges
 pub mod Waypoints
-pub mod Searches
+pub mod Relaxations
 pub mod Labels

@@ -9,8 +9,8 @@ use Rattle.spot_terms.specs.Network.{IsAhead}
 use Rattle.spot_terms.specs.Routes.{IsStartCell}
 use Rattle.spot_terms.specs.declared.plain.Pt.{Pt}
 use Rattle.lanelets.specs.Beside.{IsBeside}
-use Rattle.lane_paths.specs.declared.search.Waypoint.{Waypoint}
-use Rattle.lane_paths.specs.Reaches.{Edge}
+use Rattle.lane_paths.specs.declared.shortest_lengths.Waypoint.{Waypoint}
+use Rattle.lane_paths.specs.Edges.{Edge}
 use Rattle.lane_paths.specs.Walks.{entry_of}
 
 module _ (lanes : List Lane) (p : Pt) where

@@ -1,4 +1,5 @@
 //! Boxes along the axes round points, and what they tell of how far the points are from each other.
+
 ghost use Rattle.std.specs.Prelude.{◌≡◌, ◌↔◌, ◌<◌, List, IsTrue, length};
 ghost use Rattle.std.specs.Int.{int_gap, int_max, int_min};
 ghost use Rattle.spot_terms.specs.Bodies.{IsGreatest};

@@ -1,14 +1,15 @@
 //! The gap of two convex polygons.
+
 ghost use Rattle.std.specs.Prelude.{◌≡◌, ◌↔◌, ◌<◌, ◌≤◌, ◌+◌, ◌*◌, ◌++◌, ℕ, IsTrue, length};
 ghost use Rattle.spot_terms.specs.Gaps.{AreFar, IsGap};
 ghost use Rattle.spot_terms.specs.Lists.{Includes};
 ghost use Rattle.spot_terms.specs.declared.plain.Pt.{Pt as Point};
 ghost use Rattle.convex_poly.specs.Pivots.{AreDisjoint, differences as differences_of, each_minus, minus};
 ghost use Rattle.lane_paths.specs.Boxes.{IsBoxOf, IsGapBound};
-ghost use Rattle.lane_paths.specs.Spans.{IsLeastSpan, IsSmall};
+ghost use Rattle.lane_paths.specs.Clearances.{IsLeastClearance, IsSmall};
 
 use crate::boxes::BoundingBox;
-use crate::nearest::least_span;
+use crate::clearances::least_clearance;
 use arrayvec::ArrayVec;
 use convex_poly::Poly;
 use spot_num::isqrt_floor;
@@ -27,7 +28,7 @@ pub fn gap(a: &Poly, b: &Poly) -> u64
     if a_box.is_far_from(&b_box) || !are_apart(a, b, &a_box, &b_box) {
         return 0;
     }
-    isqrt_floor(span_between(a_corners, b_corners))
+    isqrt_floor(clearance_between(a_corners, b_corners))
 }
 
 /// Whether two polygons, with their boxes, have no common point. Where the boxes have none, there is no need to look at the
@@ -57,53 +58,53 @@ pub(crate) fn gap_at_least(a: &[Pt], b: &[Pt]) -> u64
     }
 }
 
-/// The least span of the ways from each point of `b` to each point of `a`, none of which are far from each other. Most
-/// lists have few points, and a long list of ways costs time even where it is hardly filled.
-fn span_between(a: &[Pt], b: &[Pt]) -> u128
+/// The least clearance of the vectors from each point of `b` to each point of `a`, none of which are far from each other. Most
+/// lists have few points, and a long list of vectors costs time even where it is hardly filled.
+fn clearance_between(a: &[Pt], b: &[Pt]) -> u128
     requires a_some { 0 < length a.now }
     requires b_some { 0 < length b.now }
     requires a_few { length a.now ≤ 20 }
     requires b_few { length b.now ≤ 20 }
     requires near { AreFar a.now b.now → ⊥ }
-    ensures is { IsLeastSpan (differences_of a.now b.now) result }
+    ensures is { IsLeastClearance (differences_of a.now b.now) result }
     ensures within { result ≤ 2_000_000_000_000_000_000 }
 {
     if a.len() * b.len() <= 16 {
-        span_of_at_most::<16>(a, b)
+        clearance_of_at_most::<16>(a, b)
     } else {
-        span_of_at_most::<400>(a, b)
+        clearance_of_at_most::<400>(a, b)
     }
 }
 
-/// The same, of at most `N` ways.
-fn span_of_at_most<const N: usize>(a: &[Pt], b: &[Pt]) -> u128
+/// The same, of at most `N` vectors.
+fn clearance_of_at_most<const N: usize>(a: &[Pt], b: &[Pt]) -> u128
     requires a_some { 0 < length a.now }
     requires b_some { 0 < length b.now }
     requires room { length a.now * length b.now ≤ N }
     requires most { N ≤ 400 }
     requires near { AreFar a.now b.now → ⊥ }
-    ensures is { IsLeastSpan (differences_of a.now b.now) result }
+    ensures is { IsLeastClearance (differences_of a.now b.now) result }
     ensures within { result ≤ 2_000_000_000_000_000_000 }
 {
-    let mut ways = ArrayVec::<Pt, N>::new();
+    let mut vectors = ArrayVec::<Pt, N>::new();
     for p in a {
-        push_ways(&mut ways, p, b);
+        push_differences(&mut vectors, p, b);
     }
-    least_span(ways.as_slice())
+    least_clearance(vectors.as_slice())
 }
 
-/// Adds the ways from each point of `b` to `p` at the end.
-fn push_ways<const N: usize>(ways: &mut ArrayVec<Pt, N>, p: &Pt, b: &[Pt])
-    requires room { length ways.old.items + length b.now ≤ N }
+/// Adds the vectors from each point of `b` to `p` at the end.
+fn push_differences<const N: usize>(vectors: &mut ArrayVec<Pt, N>, p: &Pt, b: &[Pt])
+    requires room { length vectors.old.items + length b.now ≤ N }
     requires near { (q : Point) → Includes b.now q → IsSmall (minus p.now q) }
-    ensures { ways.new.items ≡ ways.old.items ++ each_minus p.now b.now }
+    ensures { vectors.new.items ≡ vectors.old.items ++ each_minus p.now b.now }
 {
     for q in b {
-        ways.push(difference(p, q));
+        vectors.push(difference(p, q));
     }
 }
 
-/// The way from `q` to `p`.
+/// The vector from `q` to `p`.
 fn difference(p: &Pt, q: &Pt) -> Pt
     requires { IsSmall (minus p.now q.now) }
     ensures { result ≡ minus p.now q.now }

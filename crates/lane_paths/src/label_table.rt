@@ -1,10 +1,10 @@
 //! Labels: the least lengths of routes.
 
-ghost use Rattle.std.specs.Prelude.{◌≡◌, ◌<◌, ℕ, List, Option, Some, length, slice_get, IfOk};
-ghost use Rattle.lane_paths.specs.Labels.{AreLabels};
+ghost use Rattle.std.specs.Prelude.{◌≡◌, ℕ, List, Option, IfOk};
+ghost use Rattle.lane_paths.specs.Labels.{AreLabels, label_at};
 
-use crate::links::{spread_all, spread_start};
-use crate::search::Search;
+use crate::links::{relax_all, relax_start};
+use crate::shortest_lengths::ShortestLengths;
 use lanelets::Network;
 use spot_terms::Pt;
 use std::alloc::{AllocError, Global};
@@ -23,12 +23,12 @@ impl Model for LabelTable {
 }
 
 impl LabelTable {
-    /// The label of the cell with this number, in µm. `None` exactly where each route to it is longer than the limit.
+    /// The label of the cell with this number, in µm. `None` exactly where each route to it is longer than the limit, as for
+    /// a number that is no cell.
     pub fn get(&self, c: u32) -> Option<u64>
-        requires { c < length self.now }
-        ensures { slice_get self.now c ≡ Some result }
+        ensures { result ≡ label_at self.now c }
     {
-        self.labels[c as usize]
+        *self.labels.get(c as usize)?
     }
 }
 
@@ -37,9 +37,9 @@ pub fn labels(alloc: Global, net: &Network, start: Pt, limit: u64) -> Result<Lab
     ensures { IfOk result (λ table. AreLabels net.now start limit table) }
 {
     let starts = net.cells_at(alloc, start)?;
-    let mut search = Search::new(alloc, net.len(), limit)?;
-    spread_start(&mut search, net, start, starts.list())?;
-    spread_all(&mut search, net)?;
+    let mut search = ShortestLengths::new(alloc, net.len(), limit)?;
+    relax_start(&mut search, net, start, starts.list())?;
+    relax_all(&mut search, net)?;
     Ok(LabelTable {
         labels: search.into_labels(),
     })

@@ -2,12 +2,12 @@
 #![tactic(auto)]
 
 mod boxes;
+mod clearances;
+mod frontier;
 mod gaps;
 mod label_table;
 mod links;
-mod nearest;
-mod pending;
-mod search;
+mod shortest_lengths;
 
 pub use gaps::gap;
 pub use label_table::{LabelTable, labels};

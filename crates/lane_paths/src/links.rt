@@ -1,4 +1,5 @@
-//! Which waypoints follow each other, and how lengths go on from one to the next.
+//! Which waypoints follow each other, and how links are relaxed: a length goes on from one waypoint to the next where that
+//! is less than the one there.
 
 ghost use Rattle.std.specs.Prelude.{◌≡◌, ◌<◌, ◌∷◌, ℕ, [], List, Option, length, true, false, IfOk, OnOk};
 ghost use Rattle.std.specs.List.{AllByRecursion};
@@ -8,18 +9,18 @@ ghost use Rattle.spot_terms.specs.Network.{IsAhead};
 ghost use Rattle.spot_terms.specs.Routes.{IsStartCell};
 ghost use Rattle.spot_terms.specs.declared.plain.Pt.{Pt as Point};
 ghost use Rattle.convex_poly.specs.Polygons.{IsPosition};
-ghost use Rattle.lane_paths.specs.Searches.{AreSettled, HasPlaces, IsUnderWay, Spreads, size_of};
+ghost use Rattle.lane_paths.specs.Relaxations.{AreSettled, HasPlaces, IsUnderWay, Relaxes, size_of};
 ghost use Rattle.lane_paths.specs.Waypoints.{IsWaypoint, LinksFrom, LinksFromStart, LinksBeside, LinksOf, LinksTo, LinksToEntries, entry_at};
 
-use crate::search::{Search, Waypoint};
+use crate::shortest_lengths::{ShortestLengths, Waypoint};
 use convex_poly::{Poly, hull, segment};
 use lanelets::{Cell, Network};
 use spot_terms::Pt;
 use std::alloc::AllocError;
 
 /// Goes on from the start, which each of `starts` holds.
-pub(crate) fn spread_start(
-    search: &mut Search,
+pub(crate) fn relax_start(
+    search: &mut ShortestLengths,
     net: &Network,
     start: Pt,
     starts: &[u32],
@@ -27,79 +28,88 @@ pub(crate) fn spread_start(
     requires places { HasPlaces net.now search.old }
     requires starts { AllByRecursion (IsStartCell net.now start) starts.now }
     ensures places { OnOk result (HasPlaces net.now search.new) }
-    ensures spreads { OnOk result (Spreads (LinksFromStart net.now start starts.now) 0 search.old search.new) }
+    ensures relaxes { OnOk result (Relaxes (LinksFromStart net.now start starts.now) 0 search.old search.new) }
 {
     for s in starts {
         let from = Waypoint {
             cell: *s,
-            way: 0,
+            length: 0,
             shape: point_in(&net.cell(*s).poly, start),
         };
-        spread_waypoint(search, net, &from)?;
+        relax_waypoint(search, net, &from)?;
     }
     Ok(())
 }
 
 /// Goes on from entries until no length becomes less.
-pub(crate) fn spread_all(search: &mut Search, net: &Network) -> Result<(), AllocError>
+pub(crate) fn relax_all(search: &mut ShortestLengths, net: &Network) -> Result<(), AllocError>
     requires { HasPlaces net.now search.old }
     ensures places { OnOk result (HasPlaces net.now search.new) }
     ensures settled { OnOk result ((p : Point) (first : List (Option ℕ)) → IsUnderWay net.now p first search.old → AreSettled net.now p search.old.limit first search.new.lengths.items) }
 {
-    while spread_next(search, net)? {}
+    while relax_next(search, net)? {}
     Ok(())
 }
 
-/// Goes on from one of the pending entries, unless its length became less since. Whether there was one.
-fn spread_next(search: &mut Search, net: &Network) -> Result<bool, AllocError>
+/// Goes on from one of the frontier entries, unless its length became less since. Whether there was one.
+fn relax_next(search: &mut ShortestLengths, net: &Network) -> Result<bool, AllocError>
     requires { HasPlaces net.now search.old }
     ensures places { OnOk result (HasPlaces net.now search.new) }
     ensures limit { OnOk result (search.new.limit ≡ search.old.limit) }
     ensures less { IfOk result (λ more. more ≡ true → size_of search.new < size_of search.old) }
-    ensures none { IfOk result (λ more. more ≡ false → search.new.pending ≡ []) }
+    ensures none { IfOk result (λ more. more ≡ false → search.new.frontier ≡ []) }
     ensures under_way { OnOk result ((p : Point) (first : List (Option ℕ)) → IsUnderWay net.now p first search.old → IsUnderWay net.now p first search.new) }
 {
-    let Some((way, d)) = search.pending.pop() else {
+    let Some((so_far, d)) = search.frontier.pop() else {
         return Ok(false);
     };
-    if !search.is_current(way, d) {
+    if !search.is_current(so_far, d) {
         return Ok(true);
     }
-    spread_entry(search, net, way, d)?;
+    relax_entry(search, net, so_far, d)?;
     Ok(true)
 }
 
 /// Goes on from the entry of a cell, to which the way is so long.
-fn spread_entry(search: &mut Search, net: &Network, way: u64, d: u32) -> Result<(), AllocError>
+fn relax_entry(
+    search: &mut ShortestLengths,
+    net: &Network,
+    so_far: u64,
+    d: u32,
+) -> Result<(), AllocError>
     requires places { HasPlaces net.now search.old }
     requires within { d < length (cells net.now) }
     ensures places { OnOk result (HasPlaces net.now search.new) }
-    ensures spreads { OnOk result ((p : Point) → Spreads (LinksOf net.now p (entry_at net.now p d)) way search.old search.new) }
+    ensures relaxes { OnOk result ((p : Point) → Relaxes (LinksOf net.now p (entry_at net.now p d)) so_far search.old search.new) }
 {
     let from = Waypoint {
         cell: d,
-        way,
+        length: so_far,
         shape: entry_of(net.cell(d)),
     };
-    spread_waypoint(search, net, &from)
+    relax_waypoint(search, net, &from)
 }
 
 /// Goes on from a waypoint in all cells to which side moves lead from its cell.
-fn spread_waypoint(search: &mut Search, net: &Network, from: &Waypoint) -> Result<(), AllocError>
+fn relax_waypoint(
+    search: &mut ShortestLengths,
+    net: &Network,
+    from: &Waypoint,
+) -> Result<(), AllocError>
     requires places { HasPlaces net.now search.old }
     requires within { from.now.cell < length (cells net.now) }
     ensures places { OnOk result (HasPlaces net.now search.new) }
-    ensures spreads { OnOk result ((p : Point) (i : ℕ) → IsWaypoint net.now p i from.now.cell from.now → Spreads (LinksBeside net.now p i from.now.cell) from.now.way search.old search.new) }
+    ensures relaxes { OnOk result ((p : Point) (i : ℕ) → IsWaypoint net.now p i from.now.cell from.now → Relaxes (LinksBeside net.now p i from.now.cell) from.now.length search.old search.new) }
 {
     for c in net.beside(from.cell) {
-        spread_in_cell(search, net, from, *c)?;
+        relax_in_cell(search, net, from, *c)?;
     }
     Ok(())
 }
 
 /// Goes on from a waypoint in a cell: to the cell itself, and to the entries that are ahead of it.
-fn spread_in_cell(
-    search: &mut Search,
+fn relax_in_cell(
+    search: &mut ShortestLengths,
     net: &Network,
     from: &Waypoint,
     c: u32,
@@ -107,15 +117,15 @@ fn spread_in_cell(
     requires places { HasPlaces net.now search.old }
     requires within { c < length (cells net.now) }
     ensures places { OnOk result (HasPlaces net.now search.new) }
-    ensures spreads { OnOk result ((p : Point) (i : ℕ) → IsWaypoint net.now p i c from.now → Spreads (LinksFrom net.now p i c) from.now.way search.old search.new) }
+    ensures relaxes { OnOk result ((p : Point) (i : ℕ) → IsWaypoint net.now p i c from.now → Relaxes (LinksFrom net.now p i c) from.now.length search.old search.new) }
 {
     search.reach_end(from, c, &net.cell(c).poly);
-    spread_ahead(search, net, from, net.ahead(c))
+    relax_ahead(search, net, from, net.ahead(c))
 }
 
 /// Goes on from a waypoint to the entries of some cells.
-fn spread_ahead(
-    search: &mut Search,
+fn relax_ahead(
+    search: &mut ShortestLengths,
     net: &Network,
     from: &Waypoint,
     ahead: &[u32],
@@ -123,20 +133,25 @@ fn spread_ahead(
     requires places { HasPlaces net.now search.old }
     requires within { AllByRecursion (λ d. d < length (cells net.now)) ahead.now }
     ensures places { OnOk result (HasPlaces net.now search.new) }
-    ensures spreads { OnOk result ((p : Point) (i c : ℕ) → IsWaypoint net.now p i c from.now → AllByRecursion (IsAhead net.now (cells net.now) c) ahead.now → Spreads (LinksToEntries net.now p i c ahead.now) from.now.way search.old search.new) }
+    ensures relaxes { OnOk result ((p : Point) (i c : ℕ) → IsWaypoint net.now p i c from.now → AllByRecursion (IsAhead net.now (cells net.now) c) ahead.now → Relaxes (LinksToEntries net.now p i c ahead.now) from.now.length search.old search.new) }
 {
     for d in ahead {
-        spread_to(search, net, from, *d)?;
+        relax_to(search, net, from, *d)?;
     }
     Ok(())
 }
 
 /// Goes on from a waypoint to the entry of a cell. Its hull is made only where the boxes leave open whether it matters.
-fn spread_to(search: &mut Search, net: &Network, from: &Waypoint, d: u32) -> Result<(), AllocError>
+fn relax_to(
+    search: &mut ShortestLengths,
+    net: &Network,
+    from: &Waypoint,
+    d: u32,
+) -> Result<(), AllocError>
     requires places { HasPlaces net.now search.old }
     requires within { d < length (cells net.now) }
     ensures places { OnOk result (HasPlaces net.now search.new) }
-    ensures spreads { OnOk result ((p : Point) (i c : ℕ) → IsWaypoint net.now p i c from.now → IsAhead net.now (cells net.now) c d → Spreads (LinksTo net.now p i c (entry_at net.now p d)) from.now.way search.old search.new) }
+    ensures relaxes { OnOk result ((p : Point) (i c : ℕ) → IsWaypoint net.now p i c from.now → IsAhead net.now (cells net.now) c d → Relaxes (LinksTo net.now p i c (entry_at net.now p d)) from.now.length search.old search.new) }
 {
     let cell = net.cell(d);
     if search.is_entry_done(from, d, &[cell.entry.0, cell.entry.1]) {

@@ -5,9 +5,9 @@ use Rattle.std.specs.Int.{w128}
 use lib.IntN.{ℤ, pos, ◌+ℤ◌, ◌-ℤ◌, ◌*ℤ◌}
 use lib.Signed.{◌≤ℤ◌}
 use Rattle.spot_terms.specs.Whole.{Within, quotient_floor}
-use Rattle.spot_terms.proofs.Mixes.{not_below_times}
 use Rattle.spot_terms.proofs.QuotientBounds.{floor_between}
 use Rattle.spot_terms.proofs.Ring.{ring, var, num, ◌⊕◌, ◌⊖◌, ◌⊗◌}
+use Rattle.spot_terms.proofs.Orders.{product_not_negative}
 use Rattle.convex_poly.proofs.Wide.{product_within}
 
 -- ---- sides
@@ -69,8 +69,8 @@ sum_is f q a h k e = omega (arith, ints, e)
 -- a part of a way is at most as far as the whole of one that is no shorter
 part_at_most : (m w t u : ℤ) → pos 0 ≤ℤ m → w ≤ℤ m → pos 0 ≤ℤ t → pos 0 ≤ℤ u → (w *ℤ t) ≤ℤ (m *ℤ (t +ℤ u))
 part_at_most m w t u h k ht hu =
-    let a : pos 0 ≤ℤ ((m -ℤ w) *ℤ t) = not_below_times (m -ℤ w) t (omega (arith, ints)) ht in
-    let b : pos 0 ≤ℤ (m *ℤ u) = not_below_times m u h hu in
+    let a : pos 0 ≤ℤ ((m -ℤ w) *ℤ t) = product_not_negative (m -ℤ w) t (omega (arith, ints)) ht in
+    let b : pos 0 ≤ℤ (m *ℤ u) = product_not_negative m u h hu in
     let e : m *ℤ (t +ℤ u) ≡ ((w *ℤ t) +ℤ ((m -ℤ w) *ℤ t)) +ℤ (m *ℤ u) = ring (m ∷ w ∷ t ∷ u ∷ []) (var 0 ⊗ (var 2 ⊕ var 3)) (((var 1 ⊗ var 2) ⊕ ((var 0 ⊖ var 1) ⊗ var 2)) ⊕ (var 0 ⊗ var 3)) refl in
     rw e (below (w *ℤ t) ((m -ℤ w) *ℤ t) (m *ℤ u) a b)
   where
@@ -80,8 +80,8 @@ part_at_most m w t u h k ht hu =
 -- and at least as far
 part_at_least : (m w t u : ℤ) → m ≤ℤ pos 0 → m ≤ℤ w → pos 0 ≤ℤ t → pos 0 ≤ℤ u → (m *ℤ (t +ℤ u)) ≤ℤ (w *ℤ t)
 part_at_least m w t u h k ht hu =
-    let a : pos 0 ≤ℤ ((w -ℤ m) *ℤ t) = not_below_times (w -ℤ m) t (omega (arith, ints)) ht in
-    let b : pos 0 ≤ℤ ((pos 0 -ℤ m) *ℤ u) = not_below_times (pos 0 -ℤ m) u (omega (arith, ints)) hu in
+    let a : pos 0 ≤ℤ ((w -ℤ m) *ℤ t) = product_not_negative (w -ℤ m) t (omega (arith, ints)) ht in
+    let b : pos 0 ≤ℤ ((pos 0 -ℤ m) *ℤ u) = product_not_negative (pos 0 -ℤ m) u (omega (arith, ints)) hu in
     let e : w *ℤ t ≡ ((m *ℤ (t +ℤ u)) +ℤ ((w -ℤ m) *ℤ t)) +ℤ ((pos 0 -ℤ m) *ℤ u) = ring (m ∷ w ∷ t ∷ u ∷ []) (var 1 ⊗ var 2) (((var 0 ⊗ (var 2 ⊕ var 3)) ⊕ ((var 1 ⊖ var 0) ⊗ var 2)) ⊕ ((num (pos 0) ⊖ var 0) ⊗ var 3)) refl in
     rw e (below (m *ℤ (t +ℤ u)) ((w -ℤ m) *ℤ t) ((pos 0 -ℤ m) *ℤ u) a b)
   where

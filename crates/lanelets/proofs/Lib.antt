@@ -22,3 +22,4 @@ pub mod Sides
 pub mod SpanLaws
 pub mod StepLists
 pub mod WidthLists
+pub mod PartCounts

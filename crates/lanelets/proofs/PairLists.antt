@@ -10,6 +10,7 @@ use Rattle.spot_terms.specs.Network.{IsSide, Overlaps, lane_of}
 use Rattle.spot_terms.specs.declared.network.Origin.{Origin}
 use Rattle.spot_terms.specs.declared.network.Origin.TheVariants.{Part, Bridge}
 use Rattle.spot_terms.proofs.ListLemmas.{includes_front, includes_back, includes_either}
+use Rattle.spot_terms.proofs.Orders.{below_one_more, below_or_here}
 use Rattle.lanelets.specs.declared.cell.Placed.{Placed}
 use Rattle.lanelets.specs.declared.levels.Pair.{Pair}
 use Rattle.lanelets.specs.Beside.{AreSidePairs, HasSidesIn, SidesAmong, SidesOf, SidesFrom}
@@ -22,14 +23,6 @@ use Rattle.lanelets.proofs.StepLists.{origin_is}
 -- each cell is one of the network
 pub net_many : (cells : List Placed) → length (net_of cells) ≡ length cells
 net_many cells = length-map cells (λ p. record { origin = p.origin; entry = p.cell.entry; exit = p.cell.exit })
-
--- a number below k + 1
-below_or_here : (a k : ℕ) → a < k + 1 → (a < k) ⊎ (a ≡ k)
-below_or_here a k h = grind arith
-
--- what is below k is below k + 1
-one_more : (a k : ℕ) → a < k → a < k + 1
-one_more a k h = omega arith
 
 -- pairs of the same cells are equal
 pair_is : (p : Pair) (i j : ℕ) → p.from ≡ i → p.to ≡ j → p ≡ record { from = i; to = j }
@@ -179,7 +172,7 @@ module _ (lanes : List Lane) (net : List NetCell) (c : ℕ) where
 pub sides_more : (lanes : List Lane) (net : List NetCell) (c : ℕ) (first before after : List Pair) → Gains (SidesFrom lanes net c) first before → Gains (SidesOf lanes net c) before after → Gains (SidesFrom lanes net (c + 1)) first after
 sides_more lanes net c first before after g h =
     gains_then (SidesFrom lanes net c) (SidesOf lanes net c) (SidesFrom lanes net (c + 1)) first before after g h
-    (λ x k. (one_more x.from c k.0, k.1))
+    (λ x k. (below_one_more x.from c k.0, k.1))
     (λ x k. (let e = k.0 in omega (arith, e), k.1))
     (λ x k. elim (below_or_here x.from c k.0) [ inl l ↦ inl (l, k.1) | inr e ↦ inr (e, k.1) ])
 

@@ -1,6 +1,8 @@
 //! The network of cells that lanelets make.
 #![tactic(auto)]
 
+ghost use Rattle.spot_terms.specs.PartCounts.{PartCountsAre};
+
 mod ahead;
 mod bridges;
 mod building;
@@ -32,6 +34,12 @@ pub use fault::NetFault;
 pub use network::Network;
 pub use search::CellList;
 pub use spot_terms::Pt;
+
+/// The parts into which a piece of a lanelet is cut are the fewest of 2 m each that are at least as long as both of its
+/// sides.
+pub fn part_counts_are()
+    ensures { PartCountsAre }
+{}
 
 #[cfg(test)]
 mod tests;

@@ -10,39 +10,11 @@ ghost use Rattle.lanelets.specs.Spans.{AreSpans, IsSpanOf};
 use crate::cell::Placed;
 use crate::spans::{Span, covers};
 use convex_poly::Poly;
-use spot_terms::Pt;
+use spot_terms::{Items, Pt};
 use std::alloc::{AllocError, Global};
-use std::marker::Model;
 
 /// A list of numbers of cells.
-#[derive(Drop)]
-pub struct CellList {
-    items: Vec<u32>,
-}
-
-impl Model for CellList {
-    ghost use Rattle.std.specs.Prelude.{List, ℕ};
-
-    ghost Value = { List ℕ };
-
-    ghost view = { λ l. l.items.items };
-}
-
-impl CellList {
-    /// The list of these items.
-    pub fn from_vec(items: Vec<u32>) -> Self
-        ensures { result ≡ items.items }
-    {
-        CellList { items }
-    }
-
-    /// The items, in order.
-    pub fn list(&self) -> &[u32]
-        ensures { result.now ≡ self.now }
-    {
-        &self.items
-    }
-}
+pub type CellList = Items<u32>;
 
 // Whether the coordinates of a point are at most 4·10^13 in size, as those of all cells are.
 fn is_position(p: Pt) -> bool

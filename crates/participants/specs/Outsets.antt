@@ -6,6 +6,7 @@ use Rattle.spot_terms.specs.Lists.{Pairwise}
 use Rattle.spot_terms.specs.Motions.{IsStartSpeed}
 use Rattle.spot_terms.specs.Participants.{IsStartOf, FollowsLanes, ReachesCells, PairsSumTo}
 use Rattle.spot_terms.specs.Ranges.{IsStart}
+use Rattle.spot_terms.specs.declared.limits.TheConstants.{MOST_LANE_POLYGONS}
 use Rattle.spot_terms.specs.declared.plain.AccStart.{AccStart}
 use Rattle.spot_terms.specs.declared.scenario.Mover.{Mover}
 use Rattle.lane_occupancy.specs.Laws.{HoldsLaneBodies}
@@ -49,4 +50,4 @@ module _ (lanes : List Lane) (k steps : ℕ) where
   -- the number of the pairs of all these obstacles, and the participants that they are, where there aren't too many pairs
   pub record AreGathered (movers : List Mover) (pairs : ℕ) (participants : List Participant) : Type 0 where
     pub sum : PairsSumTo lanes k steps movers pairs
-    pub few : pairs ≤ 262_144 → Pairwise IsHolding movers participants
+    pub few : pairs ≤ MOST_LANE_POLYGONS → Pairwise IsHolding movers participants

@@ -1,5 +1,5 @@
 -- What a prediction has of a scenario.
-use Rattle.std.specs.Prelude.{◌≡◌, ◌↔◌, ℕ, ◌<◌, List, [], ◌∷◌, map, true, false, IsTrue, ℤ, pos, ◌+ℤ◌, ◌-ℤ◌}
+use Rattle.std.specs.Prelude.{◌≡◌, ◌↔◌, ℕ, ◌<◌, List, [], map, true, false, IsTrue, pos}
 use Rattle.spot_terms.specs.Cells.{Lane}
 use Rattle.spot_terms.specs.LanePolygons.{AreLanePolygons}
 use Rattle.spot_terms.specs.Lists.{Pairwise, numbers_below}
@@ -7,6 +7,7 @@ use Rattle.spot_terms.specs.Participants.{starting, IsStartOf, FollowsLanes, Has
 use Rattle.spot_terms.specs.Ranges.{IsStart}
 use Rattle.spot_terms.specs.Reach.{interval_numbers, disc_numbers}
 use Rattle.spot_terms.specs.Types.{TypeRow, HasType}
+use Rattle.spot_terms.specs.declared.limits.TheConstants.{MOST_LANE_POLYGONS}
 use Rattle.spot_terms.specs.declared.plain.Pt.{Pt}
 use Rattle.spot_terms.specs.declared.plain.AccStart.{AccStart}
 use Rattle.spot_terms.specs.declared.scenario.Kind.{Kind}
@@ -46,10 +47,6 @@ pub record IsParticipant (lanes : List Lane) (k steps : ℕ) (m : Mover) (p : Pa
 abbrev pub IsFixedOctagon : Fixed → ℕ × OctNumbers → Type 0
 IsFixedOctagon f o = (o.0 ≡ f.id) × (o.1.n ≡ disc_numbers (record { x = f.x; y = f.y }) f.enclosing)
 
--- the octagon about a point that reaches so far along the axes and along the diagonals
-abbrev pub numbers_about : Pt → ℤ → ℤ → List ℤ
-numbers_about p axis diagonal = (p.x +ℤ axis) ∷ (p.x +ℤ p.y +ℤ diagonal) ∷ (p.y +ℤ axis) ∷ (diagonal -ℤ (p.x -ℤ p.y)) ∷ (axis -ℤ p.x) ∷ (diagonal -ℤ (p.x +ℤ p.y)) ∷ (axis -ℤ p.y) ∷ (p.x -ℤ p.y +ℤ diagonal) ∷ []
-
 -- what a prediction shows
 pub record Occupancies : Type 0 where
   pub participants : List Participant
@@ -68,7 +65,7 @@ HoldsMotions lanes k steps p = p.lane ≡ true → HoldsLaneBodies lanes p.start
 
 -- the number of all lane polygons, which are too many; want of memory may come at any time
 abbrev pub IsPredictFault : Scenario → ℕ → PredictFault → Type 0
-IsPredictFault s steps (TooManyLanePolygons n) = HasPairs s steps n × (262_144 < n)
+IsPredictFault s steps (TooManyLanePolygons n) = HasPairs s steps n × (MOST_LANE_POLYGONS < n)
 IsPredictFault s steps Memory = Unit {0}
 
 -- a scenario has one such number at most

@@ -10,40 +10,11 @@ use acc_occupancy::AccRun;
 use convex_poly::OctNumbers;
 use lane_occupancy::{LanePolys, lane_polys};
 use lanelets::Network;
-use spot_terms::{AccStart, Mover};
+use spot_terms::{AccStart, Horizon, Items, Mover};
 use std::alloc::{AllocError, Global};
-use std::marker::Model;
 
 /// A list of octagons.
-#[derive(Drop)]
-pub struct OctList {
-    items: Vec<OctNumbers>,
-}
-
-impl Model for OctList {
-    ghost use Rattle.std.specs.Prelude.{List};
-    ghost use Rattle.convex_poly.specs.declared.oct_numbers.OctNumbers.{OctNumbers};
-
-    ghost Value = { List OctNumbers };
-
-    ghost view = { λ l. l.items.items };
-}
-
-impl OctList {
-    /// The list of these items.
-    pub fn from_vec(items: Vec<OctNumbers>) -> Self
-        ensures { result ≡ items.items }
-    {
-        OctList { items }
-    }
-
-    /// The items, in order.
-    pub fn list(&self) -> &[OctNumbers]
-        ensures { result.now ≡ self.now }
-    {
-        &self.items
-    }
-}
+pub type OctList = Items<OctNumbers>;
 
 /// A participant: a dynamic obstacle whose initial time is 0.
 #[derive(Drop)]
@@ -60,16 +31,14 @@ pub struct Participant {
     pub octs: OctList,
 }
 
-// The octagons of the intervals below `steps`, each of `k` ticks.
-fn octagons(alloc: Global, s: &AccStart, k: u32, steps: u32) -> Result<OctList, AllocError>
+// The octagons of the intervals.
+fn octagons(alloc: Global, s: &AccStart, h: Horizon) -> Result<OctList, AllocError>
     requires start { IsStart s.now }
-    requires ticks { (1 ≤ k) × (k ≤ 1000) }
-    requires steps { steps ≤ 100 }
-    ensures { IfOk result (λ octagons. AreOctagons s.now k steps octagons) }
+    ensures { IfOk result (λ octagons. AreOctagons s.now h.k h.steps octagons) }
 {
-    let mut items = Vec::with_capacity(alloc, steps as usize)?;
-    let mut run = AccRun::open(s, k);
-    for _ in 0..steps {
+    let mut items = Vec::with_capacity(alloc, h.steps as usize)?;
+    let mut run = AccRun::open(s, h.k);
+    for _ in 0..h.steps {
         items.push(run.next())?;
     }
     Ok(OctList::from_vec(items))
@@ -80,39 +49,33 @@ fn polygons(
     alloc: Global,
     net: &Network,
     outset: &Outset,
-    k: u32,
-    steps: u32,
+    h: Horizon,
 ) -> Result<LanePolys, AllocError>
     requires start { IsStart outset.now.start.start }
-    requires labels { HasLabels net.now k steps outset.now.start.start outset.now.labels }
-    requires ticks { (1 ≤ k) × (k ≤ 1000) }
-    requires steps { steps ≤ 100 }
-    ensures { IfOk result (λ polys. HasPolygons net.now k steps outset.now.start.start outset.now.labels polys) }
+    requires labels { HasLabels net.now h.k h.steps outset.now.start.start outset.now.labels }
+    ensures { IfOk result (λ polys. HasPolygons net.now h.k h.steps outset.now.start.start outset.now.labels polys) }
 {
     match &outset.labels {
-        Some(labels) => lane_polys(alloc, net, labels, &outset.start.start, k, steps),
+        Some(labels) => lane_polys(alloc, net, labels, &outset.start.start, h.k, h.steps),
         None => Ok(LanePolys::from_vec(Vec::new(alloc))),
     }
 }
 
-/// The participant that a dynamic obstacle is, with its occupancies in so many intervals of `k` ticks. The only error is
+/// The participant that a dynamic obstacle is, with its occupancies as far as the prediction looks. The only error is
 /// want of memory.
 pub fn participant_of(
     alloc: Global,
     net: &Network,
     m: &Mover,
     outset: &Outset,
-    k: u32,
-    steps: u32,
+    h: Horizon,
 ) -> Result<Participant, AllocError>
-    requires outset { IsOutset net.now k steps m.now outset.now }
-    requires ticks { (1 ≤ k) × (k ≤ 1000) }
-    requires steps { steps ≤ 100 }
-    ensures { IfOk result (λ p. IsHolding net.now k steps m.now p) }
+    requires outset { IsOutset net.now h.k h.steps m.now outset.now }
+    ensures { IfOk result (λ p. IsHolding net.now h.k h.steps m.now p) }
 {
     let Start { start, speed } = outset.start;
-    let octs = octagons(alloc, &start, k, steps)?;
-    let polys = polygons(alloc, net, outset, k, steps)?;
+    let octs = octagons(alloc, &start, h)?;
+    let polys = polygons(alloc, net, outset, h)?;
     Ok(Participant {
         id: m.id,
         start,

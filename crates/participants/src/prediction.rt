@@ -1,21 +1,20 @@
 //! The prediction of a scenario.
 
-ghost use Rattle.std.specs.Prelude.{◌≡◌, ◌<◌, ◌≤◌, ℕ, pos, IfOk, IfErr};
+ghost use Rattle.std.specs.Prelude.{◌≡◌, ◌≤◌, ℕ, IfOk, IfErr};
 ghost use Rattle.std.specs.List.{AllByRecursion};
 ghost use Rattle.spot_terms.specs.Participants.{starting, HasPairs};
 ghost use Rattle.spot_terms.specs.Ranges.{IsInRange, IsFixedInRange};
-ghost use Rattle.spot_terms.specs.Whole.{SizeAtMost};
-ghost use Rattle.spot_terms.specs.Reach.{normal_at, disc_numbers, disc_number as disc_number_of};
+ghost use Rattle.spot_terms.specs.Reach.{disc_numbers};
 ghost use Rattle.spot_terms.specs.Lists.{Pairwise};
 ghost use Rattle.participants.specs.Outsets.{AreGathered};
-ghost use Rattle.participants.specs.Predictions.{HoldsMotions, IsFixedOctagon, IsPredictFault, IsPrediction, PairsAreOne, numbers_about};
+ghost use Rattle.participants.specs.Predictions.{HoldsMotions, IsFixedOctagon, IsPredictFault, IsPrediction, PairsAreOne};
 
 use crate::outset::outset_of;
 use crate::participant::{Participant, participant_of};
 use convex_poly::OctNumbers;
 use lanelets::Network;
-use round_out::disc_number;
-use spot_terms::{Fixed, Pt, Scenario};
+use round_out::octagon_at;
+use spot_terms::{Fixed, Horizon, MOST_LANE_POLYGONS, MOST_STEPS, Pt, Scenario};
 use std::alloc::{AllocError, Global};
 use std::marker::Model;
 use thiserror::Error;
@@ -26,12 +25,20 @@ pub enum PredictFault {
     /// More pairs of a participant and a lane polygon than 262,144.
     #[error("{0} lane polygons are too many")]
     TooManyLanePolygons(u64),
+    /// There was no memory.
     #[error("out of memory")]
     Memory,
 }
 
-/// How many pairs of a participant and a lane polygon a prediction may have.
-const MOST_PAIRS: u64 = 262_144;
+impl From<AllocError> for PredictFault {
+    ghost use Rattle.participants.specs.declared.prediction.PredictFault.TheVariants.{Memory};
+
+    ghost from_gives = { λ _ fault. fault ≡ Memory };
+
+    fn from(_error: AllocError) -> PredictFault {
+        PredictFault::Memory
+    }
+}
 
 /// The participants of a scenario and the octagons of its static obstacles, in document order.
 #[derive(Drop)]
@@ -64,51 +71,16 @@ impl Prediction {
     }
 }
 
-// How far a disc reaches from its centre along a normal.
-fn reach_of(normal: u32, r: u64) -> i64
-    requires normal { normal < 8 }
-    requires radius { r ≤ 250_000_000 }
-    ensures value { result ≡ pos (disc_number_of (normal_at normal) r) }
-    ensures size { SizeAtMost 500_000_000 result }
-{
-    disc_number(normal, r)
-}
-
-// The octagon about a point that reaches so far along the axes and along the diagonals.
-fn octagon_about(p: Pt, axis: i64, diagonal: i64) -> OctNumbers
-    requires x { SizeAtMost 10_000_000_000_000 p.x }
-    requires y { SizeAtMost 10_000_000_000_000 p.y }
-    requires axis { SizeAtMost 500_000_000 axis }
-    requires diagonal { SizeAtMost 500_000_000 diagonal }
-    ensures { result.n ≡ numbers_about p axis diagonal }
-{
-    let sum = p.x + p.y;
-    let difference = p.x - p.y;
-    OctNumbers {
-        n: [
-            p.x + axis,
-            sum + diagonal,
-            p.y + axis,
-            diagonal - difference,
-            axis - p.x,
-            diagonal - sum,
-            axis - p.y,
-            difference + diagonal,
-        ],
-    }
-}
-
 // The octagon of a static obstacle's disc.
 fn octagon_of(f: &Fixed) -> OctNumbers
     requires { IsFixedInRange f.now }
     ensures { result.n ≡ disc_numbers (record { x = f.now.x; y = f.now.y }) f.now.enclosing }
 {
-    let center = Pt { x: f.x, y: f.y };
-    octagon_about(center, reach_of(0, f.enclosing), reach_of(1, f.enclosing))
+    octagon_at(Pt { x: f.x, y: f.y }, f.enclosing)
 }
 
-/// What is gathered of the obstacles that start at time 0: the number of the pairs of one of them and a lane polygon, and
-/// the participants that they are, where there aren't too many pairs.
+// What is gathered of the obstacles that start at time 0: the number of the pairs of one of them and a lane polygon, and
+// the participants that they are, where there aren't too many pairs.
 #[derive(Drop)]
 struct Gathered {
     pairs: u64,
@@ -119,17 +91,18 @@ struct Gathered {
 // pairs on, no participant is made, and the pairs are only counted.
 fn gather(alloc: Global, s: &Scenario, net: &Network, steps: u32) -> Result<Gathered, AllocError>
     requires range { IsInRange s.now }
-    requires steps { steps ≤ 100 }
+    requires steps { steps ≤ MOST_STEPS }
     ensures { IfOk result (λ g. AreGathered net.now s.now.step steps (starting s.now.movers) g.pairs g.participants.items) }
 {
+    let h = Horizon { k: s.step, steps };
     let mut pairs: u64 = 0;
     let mut participants = Vec::new(alloc);
     for m in s.movers.list() {
         if m.time == 0 {
-            let outset = outset_of(alloc, net, m, s.step, steps)?;
+            let outset = outset_of(alloc, net, m, h)?;
             pairs += u64::from(outset.count);
-            if pairs <= MOST_PAIRS {
-                participants.push(participant_of(alloc, net, m, &outset, s.step, steps)?)?;
+            if pairs <= MOST_LANE_POLYGONS {
+                participants.push(participant_of(alloc, net, m, &outset, h)?)?;
             }
         }
     }
@@ -163,26 +136,20 @@ pub fn predict(
 ) -> Result<Prediction, PredictFault>
     requires range { IsInRange s.now }
     requires network { net.now ≡ s.now.lanelets.entries }
-    requires steps { steps ≤ 100 }
+    requires steps { steps ≤ MOST_STEPS }
     ensures ok { IfOk result (λ p. IsPrediction s.now steps p) }
-    ensures few { IfOk result (λ p. (n : ℕ) → HasPairs s.now steps n → n ≤ 262_144) }
+    ensures few { IfOk result (λ p. (n : ℕ) → HasPairs s.now steps n → n ≤ MOST_LANE_POLYGONS) }
     ensures holds { IfOk result (λ p. AllByRecursion (λ q. HoldsMotions s.now.lanelets.entries s.now.step steps q) p.participants) }
     ensures fault { IfErr result (λ fault. IsPredictFault s.now steps fault) }
 {
-    let Ok(gathered) = gather(alloc, s, net, steps) else {
-        return Err(PredictFault::Memory);
-    };
-    if gathered.pairs > MOST_PAIRS {
+    let gathered = gather(alloc, s, net, steps)?;
+    if gathered.pairs > MOST_LANE_POLYGONS {
         return Err(PredictFault::TooManyLanePolygons(gathered.pairs));
     }
-    let participants = gathered.participants;
-    match fixed_of(alloc, s) {
-        Ok(fixed) => Ok(Prediction {
-            participants,
-            fixed,
-        }),
-        Err(_) => Err(PredictFault::Memory),
-    }
+    Ok(Prediction {
+        participants: gathered.participants,
+        fixed: fixed_of(alloc, s)?,
+    })
 }
 
 /// A scenario has one number of pairs of a participant and a lane polygon.

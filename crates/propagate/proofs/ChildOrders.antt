@@ -1,5 +1,5 @@
 -- Child numbers are in order, and in range.
-use Rattle.std.proofs.Common.{◌≡◌, ◌∙◌, ℕ, ◌+◌, ◌-◌, ◌*◌, ◌/◌, ◌<◌, ◌≤◌, arith, ap, sym, refl, subst, List, [], ◌∷◌, map, inl, inr}
+use Rattle.std.proofs.Common.{◌≡◌, ◌∙◌, ℕ, ◌+◌, ◌-◌, ◌*◌, ◌/◌, ◌<◌, ◌≤◌, arith, sym, refl, subst, List, [], ◌∷◌, map}
 use Rattle.std.specs.Prelude.{nat_abs, slice_index_or}
 use Rattle.std.specs.List.{AllByRecursion}
 use Rattle.std.proofs.lemmas.Int.{ints}
@@ -8,12 +8,10 @@ use lib.Signed.{◌≤ℤ◌}
 use Rattle.spot_terms.specs.declared.plain.Pt.{Pt}
 use Rattle.spot_terms.specs.Frames.{at, number, AreFrameSupports, IsFrameInOrder, IsFrameInRange}
 use Rattle.spot_terms.specs.Hull.{dot, IsSupport}
-use Rattle.spot_terms.specs.Lists.{Includes, Pairwise}
-use Rattle.spot_terms.specs.Reach.{Normal}
 use Rattle.spot_terms.proofs.ListLemmas.{all_included, includes_map, pairwise_at}
 use Rattle.spot_terms.proofs.Members.{in_map}
 use Rattle.spot_terms.proofs.Products.{products}
-use Rattle.spot_terms.proofs.Ring.{ring, var, num, ◌⊕◌, ◌⊖◌, ◌⊗◌}
+use Rattle.spot_terms.proofs.Ring.{ring, var, ◌⊕◌, ◌⊗◌}
 use Rattle.convex_poly.proofs.Wide.{product_within}
 use Rattle.round_out.proofs.FrameBounds.{supports_in_order, value2, value3, value6, value7}
 use Rattle.propagate.proofs.NumberLists.{speed_growth, place_growth, double_growth, normal_growths, IsChildNumber, AreChildNumbers}
@@ -72,29 +70,28 @@ less a k f =
     ∷ (number f 4 -ℤ pos (speed_growth a k)) ∷ (number f 5 -ℤ pos (place_growth a k)) ∷ (number f 6 -ℤ pos (double_growth a k)) ∷ (number f 7 -ℤ pos (place_growth a k)) ∷ []
 
 less_supports : (a k : ℕ) (vs : List Pt) (f : List ℤ) → AreChildNumbers a k vs f → AreFrameSupports (pos k) (map (shear k) vs) (less a k f)
-less_supports a k vs f s =
+less_supports a k vs f s = (
+  sheared_support k vs (pos 0) (pos 1) _ (number_is a k vs f 0 (omega arith) s),
+  (
+    sheared_support k vs (pos 1) (pos 0) _ (number_is a k vs f 1 (omega arith) s),
     (
-      sheared_support k vs (pos 0) (pos 1) _ (number_is a k vs f 0 (omega arith) s),
+      sheared_support k vs (pos 2) (neg_ℤ (pos k)) _ (number_is a k vs f 2 (omega arith) s),
       (
-        sheared_support k vs (pos 1) (pos 0) _ (number_is a k vs f 1 (omega arith) s),
+        sheared_support k vs (pos 1) (neg_ℤ (pos k)) _ (number_is a k vs f 3 (omega arith) s),
         (
-          sheared_support k vs (pos 2) (neg_ℤ (pos k)) _ (number_is a k vs f 2 (omega arith) s),
+          sheared_support k vs (pos 0) (negsuc 0) _ (number_is a k vs f 4 (omega arith) s),
           (
-            sheared_support k vs (pos 1) (neg_ℤ (pos k)) _ (number_is a k vs f 3 (omega arith) s),
+            sheared_support k vs (negsuc 0) (pos 0) _ (number_is a k vs f 5 (omega arith) s),
             (
-              sheared_support k vs (pos 0) (negsuc 0) _ (number_is a k vs f 4 (omega arith) s),
-              (
-                sheared_support k vs (negsuc 0) (pos 0) _ (number_is a k vs f 5 (omega arith) s),
-                (
-                  sheared_support k vs (negsuc 1) (pos k) _ (number_is a k vs f 6 (omega arith) s),
-                  (sheared_support k vs (negsuc 0) (pos k) _ (number_is a k vs f 7 (omega arith) s), tt),
-                ),
-              ),
+              sheared_support k vs (negsuc 1) (pos k) _ (number_is a k vs f 6 (omega arith) s),
+              (sheared_support k vs (negsuc 0) (pos k) _ (number_is a k vs f 7 (omega arith) s), tt),
             ),
           ),
         ),
       ),
-    )
+    ),
+  ),
+)
 
 pub child_numbers_in_order : (a k : ℕ) (vs : List Pt) (f : List ℤ) → 0 < a → 0 < k → AreChildNumbers a k vs f → IsFrameInOrder (pos k) f
 child_numbers_in_order a k vs f some ticks s =

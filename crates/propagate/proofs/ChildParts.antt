@@ -1,7 +1,6 @@
 -- The frame of a child, clipped.
-use Rattle.std.proofs.Common.{◌≡◌, ◌∙◌, ◌⊎◌, ℕ, ◌+◌, ◌≤◌, arith, ap, sym, refl, subst, List, [], ◌∷◌, ◌++◌, inl, inr, length}
-use Rattle.std.specs.Prelude.{nat_abs, Option, Some, None, IfSome, IsSomeAnd}
-use Rattle.std.specs.List.{AllByRecursion}
+use Rattle.std.proofs.Common.{◌≤◌, arith, sym, refl, subst, List, [], ◌∷◌, ◌++◌, inl, inr, length}
+use Rattle.std.specs.Prelude.{nat_abs, Option, Some, None, IfSome}
 use Rattle.std.proofs.lemmas.Int.{ints}
 use lib.IntN.{ℤ, pos, negsuc, neg_ℤ, ◌+ℤ◌, ◌-ℤ◌, ◌*ℤ◌}
 use lib.Signed.{◌≤ℤ◌}
@@ -9,17 +8,15 @@ use Rattle.spot_terms.specs.declared.plain.Pt.{Pt}
 use Rattle.spot_terms.specs.ChildNumbers.{child_numbers}
 use Rattle.spot_terms.specs.ClippedTo.{Side, places, speeds, IsClippedTo, IsClippedAway}
 use Rattle.spot_terms.specs.Courses.{Course}
-use Rattle.spot_terms.specs.Frames.{at, InFrame}
-use Rattle.spot_terms.specs.Hull.{dot, InHull, IsCornerList}
-use Rattle.spot_terms.specs.Lists.{Includes}
+use Rattle.spot_terms.specs.Frames.{at}
+use Rattle.spot_terms.specs.Hull.{IsCornerList}
 use Rattle.spot_terms.specs.StepLists.{IsFrameOf}
 use Rattle.spot_terms.specs.Whole.{Within}
 use Rattle.spot_terms.proofs.ListLemmas.{all_included, all_of}
 use Rattle.round_out.specs.Clips.{StaysInBox}
 use Rattle.round_out.specs.Parts.{IsPart, KeepsParts, StaysBetween, StaysSlow, GainsAtMostTwo}
-use Rattle.base_sets.specs.Passes.{Passes}
 use Rattle.round_out.proofs.TwoClips.{corner_at_most}
-use Rattle.propagate.specs.Children.{IsPlaneChild, HasNoChild, HoldsFrame, HoldsPlane, IsInPlane, IsChildIn}
+use Rattle.propagate.specs.Children.{IsPlaneChild, HoldsFrame, HoldsPlane, IsInPlane, IsChildIn}
 
 -- ---- clips after clips
 

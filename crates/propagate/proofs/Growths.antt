@@ -1,15 +1,13 @@
 -- A state after k ticks is, along each frame normal, at most the growth past where it came from.
-use Rattle.std.proofs.Common.{◌≡◌, ◌∙◌, ℕ, zero, suc, ◌+◌, ◌*◌, ◌/◌, ◌≤◌, arith, ap, sym, refl, subst, List, [], ◌∷◌, inl, inr}
+use Rattle.std.proofs.Common.{◌≡◌, ◌∙◌, ℕ, ◌+◌, ◌*◌, ◌/◌, arith, ap, refl, subst}
 use Rattle.std.specs.Prelude.{nat_abs}
 use Rattle.std.proofs.lemmas.Int.{ints}
 use lib.IntN.{ℤ, pos, negsuc, neg_ℤ, ◌+ℤ◌, ◌-ℤ◌, ◌*ℤ◌}
 use lib.Signed.{◌≤ℤ◌}
-use Rattle.spot_terms.specs.Lists.{Includes}
-use Rattle.spot_terms.specs.Reach.{Normal}
 use Rattle.spot_terms.proofs.Products.{products, *ℤ_assoc}
 use Rattle.base_sets.specs.Passes.{Passes}
 use Rattle.propagate.specs.Growing.{GrowthsBoundSteps}
-use Rattle.propagate.proofs.NumberLists.{speed_growth, place_growth, double_growth, normal_growths}
+use Rattle.propagate.proofs.NumberLists.{speed_growth, place_growth, double_growth}
 use Rattle.propagate.proofs.Spreads.{spread, grown, spread-speed, spread-once, spread-once_back, spread-twice, spread-twice_back, sizes, sizes-odd, sizes-odd_down, sizes-middle}
 
 -- from (p, v) to (q, w): along n at most the growth g past the way of the step

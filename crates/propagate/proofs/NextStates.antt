@@ -1,11 +1,11 @@
 -- What a polygon's points lead to a step later is within the polygon's child numbers.
-use Rattle.std.proofs.Common.{◌≡◌, ◌∙◌, ℕ, ◌+◌, ◌*◌, ◌≤◌, arith, ap, sym, refl, subst, List, [], ◌∷◌, map, inl, inr, length, sum}
+use Rattle.std.proofs.Common.{◌≡◌, ℕ, ◌≤◌, arith, refl, List, [], ◌∷◌, map, inl, inr, length, sum}
 use Rattle.std.proofs.lemmas.Int.{ints}
-use lib.IntN.{ℤ, pos, negsuc, neg_ℤ, ◌+ℤ◌, ◌-ℤ◌, ◌*ℤ◌}
+use lib.IntN.{ℤ, pos, ◌+ℤ◌, ◌-ℤ◌, ◌*ℤ◌}
 use lib.Signed.{◌≤ℤ◌}
 use Rattle.spot_terms.specs.declared.plain.Pt.{Pt}
-use Rattle.spot_terms.specs.Frames.{at, frame_normals, InFrame}
-use Rattle.spot_terms.specs.Hull.{InHull, IsSupport}
+use Rattle.spot_terms.specs.Frames.{at, InFrame}
+use Rattle.spot_terms.specs.Hull.{InHull}
 use Rattle.spot_terms.specs.Lists.{Includes, Pairwise}
 use Rattle.spot_terms.specs.Reach.{Normal, along}
 use Rattle.spot_terms.proofs.Hulls.{support_bounds_whole}
@@ -14,7 +14,7 @@ use Rattle.std.specs.Prelude.{nat_abs}
 use Rattle.spot_terms.specs.ChildNumbers.{child_numbers}
 use Rattle.base_sets.specs.Passes.{Passes}
 use Rattle.propagate.proofs.NumberLists.{normal_growths, IsChildNumber, AreChildNumbers, child_numbers-are}
-use Rattle.propagate.proofs.Growths.{Grows, GrowsBy, grows}
+use Rattle.propagate.proofs.Growths.{GrowsBy, grows}
 
 -- what follows for each pair whose first is in the list
 pub pairwise_included : {X Y : Type 0} (R S : X → Y → Type 0) (xs : List X) (ys : List Y) → ((x : X) (y : Y) → Includes xs x → R x y → S x y) → Pairwise R xs ys → Pairwise S xs ys

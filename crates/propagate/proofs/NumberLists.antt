@@ -1,12 +1,12 @@
 -- Child numbers as a relation: each without its growth is a support.
-use Rattle.std.proofs.Common.{◌≡◌, ◌∙◌, ℕ, ◌+◌, ◌*◌, ◌/◌, arith, refl, sym, subst, List, [], ◌∷◌}
+use Rattle.std.proofs.Common.{◌≡◌, ℕ, ◌+◌, ◌*◌, ◌/◌, arith, refl, sym, subst, List, [], ◌∷◌}
 use Rattle.std.specs.Prelude.{nat_abs}
 use Rattle.std.proofs.lemmas.Int.{ints}
 use lib.IntN.{ℤ, pos, neg_ℤ, ◌+ℤ◌, ◌-ℤ◌, ◌*ℤ◌}
 use Rattle.spot_terms.specs.declared.plain.Pt.{Pt}
 use Rattle.spot_terms.specs.ChildNumbers as numbers
 use Rattle.spot_terms.specs.ChildNumbers.{support, sheared}
-use Rattle.spot_terms.specs.Hull.{IsSupport, IsCornerList}
+use Rattle.spot_terms.specs.Hull.{IsSupport}
 use Rattle.spot_terms.specs.Lists.{Pairwise}
 use Rattle.spot_terms.specs.Reach.{Normal, minus_one}
 use Rattle.spot_terms.proofs.Supports.{supports_are}
@@ -39,27 +39,27 @@ AreChildNumbers a k corners numbers = Pairwise (IsChildNumber k corners) (normal
 -- those of the definition
 pub child_numbers-are : (a : ℤ) (k : ℕ) (u : Pt) (vs : List Pt) → AreChildNumbers (nat_abs a) k (u ∷ vs) (numbers.child_numbers a k (u ∷ vs))
 child_numbers-are a k u vs = (
-      each (pos 0, pos 1) (k * nat_abs a),
+  each (pos 0, pos 1) (k * nat_abs a),
+  (
+    each (pos 1, pos 0) _,
+    (
+      each (pos 2, neg_ℤ (pos k)) _,
       (
-        each (pos 1, pos 0) _,
+        each (pos 1, neg_ℤ (pos k)) _,
         (
-          each (pos 2, neg_ℤ (pos k)) _,
+          each (pos 0, minus_one) (k * nat_abs a),
           (
-            each (pos 1, neg_ℤ (pos k)) _,
+            each (minus_one, pos 0) _,
             (
-              each (pos 0, minus_one) (k * nat_abs a),
-              (
-                each (minus_one, pos 0) _,
-                (
-                  each (neg_ℤ (pos 2), pos k) _,
-                  (each (minus_one, pos k) _, tt),
-                ),
-              ),
+              each (neg_ℤ (pos 2), pos k) _,
+              (each (minus_one, pos k) _, tt),
             ),
           ),
         ),
       ),
-    )
+    ),
+  ),
+)
   where
     back : (z : ℤ) (g : ℕ) → z ≡ z +ℤ pos g -ℤ pos g
     back z g = omega (arith, ints)

@@ -1,5 +1,5 @@
 -- What a step makes of the two polygons of a base set.
-use Rattle.std.specs.Prelude.{ℕ, ℤ, pos, neg_ℤ, ◌≤◌, ◌⊎◌, ◌++◌, List, length, Option, Some, None, IsSomeAnd, nat_abs}
+use Rattle.std.specs.Prelude.{ℕ, ℤ, neg_ℤ, ◌≤◌, ◌⊎◌, ◌++◌, List, length, Option, Some, None, IsSomeAnd, nat_abs}
 use Rattle.std.specs.List.{AllByRecursion}
 use Rattle.spot_terms.specs.BaseSets.{SetValue, Rect, HoldsState, InRect}
 use Rattle.spot_terms.specs.ChildNumbers.{child_numbers}

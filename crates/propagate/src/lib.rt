@@ -6,7 +6,7 @@ mod numbers;
 mod ways;
 
 pub use children::{child, plane_child};
-pub use numbers::child_numbers;
+pub use numbers::{child_numbers, growths_bound_steps};
 
 #[cfg(test)]
 mod child_rows;

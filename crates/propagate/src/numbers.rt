@@ -17,8 +17,7 @@ use round_out::FrameNumbers;
 /// the growth past the value that the speed alone leads to.
 pub fn growths_bound_steps()
     ensures { GrowthsBoundSteps }
-{
-}
+{}
 
 /// The greatest numbers along the frame normals that a step of `k` ticks from the polygon can reach, with accelerations
 /// of at most `a` in size, in m/s². They are in order.

@@ -1,10 +1,10 @@
 //! Tests against worked values, and against values of a program that was written apart from this one.
-ghost use Rattle.std.specs.Prelude.{◌↔◌, IsTrue};
+ghost use Rattle.std.specs.Prelude.{◌≡◌, ◌↔◌, ◌<◌, ◌≤◌, IsTrue, length};
 ghost use Rattle.std.specs.List.{AllByRecursion};
 ghost use Rattle.propagate.specs.Children.{IsStepPoint};
 
 use super::*;
-use crate::child_rows::ROWS;
+use crate::child_rows::{ROWS, Row};
 use base_sets::{BaseSet, EgoBounds, OuterBox};
 use convex_poly::{Poly, Pt, hull, segment};
 use std::process::Abort;
@@ -34,6 +34,16 @@ fn polygon_of(rt: &impl Abort, row: usize, corners: &[Pt]) -> Poly
 {
     assert!(rt; !corners.is_empty() && corners.len() <= 20, "row {row}");
     assert!(rt; are_step_points(corners), "row {row}");
+    hull_of(corners)
+}
+
+/// The hull of at most 20 corners.
+fn hull_of(corners: &[Pt]) -> Poly
+    requires some { 0 < length corners.now }
+    requires few { length corners.now ≤ 20 }
+    requires near { AllByRecursion IsStepPoint corners.now }
+    ensures { AllByRecursion IsStepPoint result }
+{
     hull(corners)
 }
 
@@ -49,14 +59,28 @@ fn corners_of(polygon: &Option<Poly>) -> &[Pt] {
 fn numbers_and_children(rt: HostRuntime) -> Result<(), Fail> {
     for (row, given) in ROWS.iter().enumerate() {
         let p = polygon_of(&rt, row, given.corners);
-        let k = given.k;
-        assert!(rt; (1..=1000).contains(&k) && (1..=20).contains(&given.a), "row {row}");
-        assert_eq!(rt; child_numbers(&p, given.a, i64::from(k)).n, given.numbers, "row {row}");
-        let bounds = EgoBounds {
-            a: given.a,
-            v: given.v,
-        };
-        let child = plane_child(&p, &bounds, k, given.lo, given.hi);
+        let Row {
+            a,
+            v,
+            k,
+            lo,
+            hi,
+            ..
+        } = *given;
+        assert!(rt;
+            a >= 1 && a <= 20 && v >= 0 && v <= 900_000 && k >= 1 && k <= 1000,
+            "row {row}"
+        );
+        assert!(rt;
+            lo.unsigned_abs() <= 40_000_000_000_000 && hi.unsigned_abs() <= 40_000_000_000_000,
+            "row {row}"
+        );
+        assert_eq!(rt;
+            child_numbers(&p, a, i64::from(k)).n,
+            given.numbers,
+            "row {row}"
+        );
+        let child = plane_child(&p, &EgoBounds { a, v }, k, lo, hi);
         assert_eq!(rt; corners_of(&child), given.child, "row {row}");
     }
     Ok(())

@@ -19,3 +19,5 @@ pub mod ClipHulls
 pub mod ClipCounts
 pub mod ClipCases
 pub mod TwoClips
+pub mod Octagons
+pub mod ClipLaws

@@ -92,8 +92,8 @@ pub still_on_side : (s : Side) (a : ℤ) (half : List Pt) (left : Option (List P
 still_on_side s a half None c k g h = tt
 still_on_side s a half (Some left) c k g h =
     all_of (λ v. (reflection s v).x ≤ℤ a) left (λ v i.
-        subst (λ z. z ≤ℤ a) (along_axis s v)
-        (corner_at_most (axis s).0 (axis s).1 a half left v (is_axis s) c k g (λ u j. subst (λ z. z ≤ℤ a) (sym (along_axis s u)) (all_included (λ w. (reflection s w).x ≤ℤ a) half u h j)) i))
+    subst (λ z. z ≤ℤ a) (along_axis s v)
+    (corner_at_most (axis s).0 (axis s).1 a half left v (is_axis s) c k g (λ u j. subst (λ z. z ≤ℤ a) (sym (along_axis s u)) (all_included (λ w. (reflection s w).x ≤ℤ a) half u h j)) i))
 
 -- ---- between two places, and up to a speed
 

@@ -3,3 +3,4 @@ pub mod Origin
 pub mod Frames
 pub mod Clips
 pub mod Parts
+pub mod Octagons

@@ -6,12 +6,14 @@ mod body;
 mod clips;
 mod disc;
 mod frames;
+mod octagon;
 mod parts;
 
 pub use body::body_poly;
 pub use clips::{clip_v_max, clip_v_min, clip_x_max, clip_x_min};
 pub use disc::{body_octagon, disc_number};
 pub use frames::{FrameNumbers, frame_numbers, frame_poly};
+pub use octagon::octagon_at;
 pub use parts::{part_between, slow_part};
 
 #[cfg(test)]

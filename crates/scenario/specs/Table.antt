@@ -5,6 +5,7 @@ use Rattle.spot_claims.specs.Paths as paths
 use Rattle.spot_claims.specs.Paths.{each_child, first_child, lanelets, problems}
 use Rattle.spot_claims.specs.Profile as profile
 use Rattle.spot_claims.specs.Profile.{obstacles, wrong_root, wrong_version, no_step_size, bad_step_size, large_step_size, uneven_step_size, bad_id, duplicate_id, too_many, bound_count, lacks_a_child, lacks_each_child, bad_number, out_of_range}
+use Rattle.spot_terms.specs.declared.limits.TheConstants.{MOST_OBSTACLES}
 use Rattle.scenario.specs.declared.table.Step.{Step}
 use Rattle.scenario.specs.declared.table.Step.TheVariants.{Each, First}
 use Rattle.scenario.specs.declared.table.Group.{Group}
@@ -48,7 +49,7 @@ check_of LargeStepSize = large_step_size
 check_of UnevenStepSize = uneven_step_size
 check_of BadId = bad_id
 check_of (DuplicateId group) = duplicate_id (group_paths group)
-check_of TooMany = too_many obstacles 4096
+check_of TooMany = too_many obstacles MOST_OBSTACLES
 check_of BoundCount = bound_count
 check_of (LacksAChild names) = lacks_a_child (map text_of names.now)
 check_of (LacksEachChild code names) = lacks_each_child code (map text_of names.now)

@@ -1,4 +1,5 @@
 //! The checks of one element.
+
 ghost use Rattle.std.specs.Prelude.{◌≡◌, ◌<◌, ◌≤◌, ◌+◌, ◌↔◌, ◌==◌, ◌||◌, ◌&&◌, map, not, length, nat_lt, option_map, unwrap_or, IsTrue, codes};
 ghost use Rattle.spot_claims.specs.Tree.{all_named, is_called, attribute_at, text_at};
 ghost use Rattle.spot_claims.specs.Profile.{point_count, lacks_one as one_lacks, lacks_all as all_lack, lacks as child_lacks, step_size_text as the_step_size_text, FailsAt, wrong_version, no_step_size};
@@ -10,7 +11,7 @@ use crate::numbers::{is_bad_number, is_outside, is_too_large, is_uneven};
 use crate::table::Check;
 use spot_tree::Tree;
 
-/// How many children of a name an element has, which is below `len`.
+// How many children of a name an element has, which is below `len`.
 fn count_named(tree: &Tree, e: u32, name: &str) -> usize
     requires { e < length tree.now }
     ensures { result ≡ length (all_named tree.now name.now e) }
@@ -24,7 +25,7 @@ fn count_named(tree: &Tree, e: u32, name: &str) -> usize
     count
 }
 
-/// How many points the first bound of a name has.
+// How many points the first bound of a name has.
 fn count_points(tree: &Tree, e: u32, bound: &str) -> usize
     requires { e < length tree.now }
     ensures { result ≡ point_count tree.now bound.now e }
@@ -35,7 +36,7 @@ fn count_points(tree: &Tree, e: u32, bound: &str) -> usize
     }
 }
 
-/// Whether the bounds of a lanelet have different numbers of points, or fewer than two.
+// Whether the bounds of a lanelet have different numbers of points, or fewer than two.
 fn has_uneven_bounds(tree: &Tree, e: u32) -> bool
     requires { e < length tree.now }
     ensures { result ≡ (not (point_count tree.now (codes "leftBound") e == point_count tree.now (codes "rightBound") e) || nat_lt (point_count tree.now (codes "leftBound") e) 2) }
@@ -45,7 +46,7 @@ fn has_uneven_bounds(tree: &Tree, e: u32) -> bool
     left != right || left < 2
 }
 
-/// Whether an element has no child of a name.
+// Whether an element has no child of a name.
 fn lacks(tree: &Tree, e: u32, name: &str) -> bool
     requires { e < length tree.now }
     ensures { result ≡ child_lacks tree.now e name.now }
@@ -53,7 +54,7 @@ fn lacks(tree: &Tree, e: u32, name: &str) -> bool
     tree.child(e, name).is_none()
 }
 
-/// Whether one of these children isn't there.
+// Whether one of these children isn't there.
 fn lacks_one(tree: &Tree, e: u32, names: &[&str]) -> bool
     requires { e < length tree.now }
     ensures { result ≡ one_lacks tree.now e (map text_of names.now) }
@@ -66,7 +67,7 @@ fn lacks_one(tree: &Tree, e: u32, names: &[&str]) -> bool
     false
 }
 
-/// Whether none of these children is there.
+// Whether none of these children is there.
 fn lacks_all(tree: &Tree, e: u32, names: &[&str]) -> bool
     requires { e < length tree.now }
     ensures { result ≡ all_lack tree.now e (map text_of names.now) }
@@ -79,7 +80,7 @@ fn lacks_all(tree: &Tree, e: u32, names: &[&str]) -> bool
     true
 }
 
-/// Whether the version of an element isn't the one that is read.
+// Whether the version of an element isn't the one that is read.
 fn has_wrong_version(tree: &Tree, e: u32) -> bool
     requires { e < length tree.now }
     ensures { IsTrue result ↔ FailsAt tree.now e wrong_version }
@@ -98,7 +99,7 @@ pub(crate) fn step_size_text(tree: &Tree) -> &str
     }
 }
 
-/// Whether there is no step size.
+// Whether there is no step size.
 fn has_no_step_size(tree: &Tree) -> bool
     ensures { IsTrue result ↔ FailsAt tree.now 0 no_step_size }
 {

@@ -1,4 +1,5 @@
 //! The first failing check of a tree.
+
 ghost use Rattle.std.specs.Prelude.{◌≡◌, ◌<◌, map, length, IfOk};
 ghost use Rattle.std.specs.List.{All};
 ghost use Rattle.scenario.specs.Known.{IsKnown};
@@ -14,7 +15,7 @@ use spot_tree::Tree;
 use std::alloc::{AllocError, Global};
 
 /// A failing check: the place of its element, its number in the line from 0, and its code.
-#[derive(Clone, Copy)]
+#[derive(Clone, Copy, Debug, PartialEq, Eq)]
 pub(crate) struct Fault {
     pub(crate) place: u32,
     pub(crate) number: usize,
@@ -22,7 +23,7 @@ pub(crate) struct Fault {
 }
 
 impl Fault {
-    /// Whether this fault comes before another.
+    // Whether this fault comes before another.
     fn precedes(&self, other: &Fault) -> bool
         ensures { result ≡ comes_before self.now other.now }
     {
@@ -30,7 +31,7 @@ impl Fault {
     }
 }
 
-/// The first of two faults, where there are any.
+// The first of two faults, where there are any.
 fn first_of(a: Option<Fault>, b: Option<Fault>) -> Option<Fault>
     ensures { result ≡ least_of a b }
 {
@@ -41,7 +42,7 @@ fn first_of(a: Option<Fault>, b: Option<Fault>) -> Option<Fault>
     }
 }
 
-/// The first of these checks that fails at an element, which is below `len`.
+// The first of these checks that fails at an element, which is below `len`.
 fn fault_at(tree: &Tree, known: &Known, e: u32, checks: &[Check]) -> Option<Fault>
     requires inside { e < length tree.now }
     requires known { IsKnown tree.now known.now }
@@ -59,7 +60,7 @@ fn fault_at(tree: &Tree, known: &Known, e: u32, checks: &[Check]) -> Option<Faul
     None
 }
 
-/// The first fault at these elements, which are below `len`.
+// The first fault at these elements, which are below `len`.
 fn fault_among(tree: &Tree, known: &Known, elements: &[u32], checks: &[Check]) -> Option<Fault>
     requires inside { All (λ e. e < length tree.now) elements.now }
     requires known { IsKnown tree.now known.now }
@@ -72,7 +73,7 @@ fn fault_among(tree: &Tree, known: &Known, elements: &[u32], checks: &[Check]) -
     first
 }
 
-/// The first fault at the elements that these ways lead to from others, which are below `len`.
+// The first fault at the elements that these ways lead to from others, which are below `len`.
 fn fault_along(
     alloc: Global,
     tree: &Tree,
@@ -92,7 +93,7 @@ fn fault_along(
     Ok(first)
 }
 
-/// The first fault of a line.
+// The first fault of a line.
 fn fault_of(
     alloc: Global,
     tree: &Tree,

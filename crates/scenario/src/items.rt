@@ -1,4 +1,5 @@
 //! The obstacles and the problems of an accepted tree.
+
 ghost use Rattle.std.specs.Prelude.{◌≡◌, ◌<◌, ℕ, length, map, Some, IfOk, codes};
 ghost use Rattle.std.specs.List.{All, AllByRecursion};
 ghost use Rattle.spot_terms.specs.Lists.{Includes, Pairwise};
@@ -18,8 +19,8 @@ use spot_terms::{Fixed, Kind, Mover, Problem, StateList};
 use spot_tree::Tree;
 use std::alloc::{AllocError, Global};
 
-/// A type with its name.
-#[derive(Clone, Copy)]
+// A type with its name.
+#[derive(Clone, Copy, Debug, PartialEq, Eq)]
 struct NamedKind {
     name: &'static str,
     kind: Kind,
@@ -64,7 +65,7 @@ const KINDS: [NamedKind; 9] = [
     },
 ];
 
-/// The problem of an element.
+// The problem of an element.
 fn problem_at(tree: &Tree, e: u32) -> Problem
     requires inside { e < length tree.now }
     requires has { HasProblem tree.now e }
@@ -107,7 +108,7 @@ pub(crate) fn problems_of(
     Ok(problems)
 }
 
-/// The static obstacle of an element.
+// The static obstacle of an element.
 fn fixed_at(alloc: Global, tree: &Tree, e: u32) -> Result<Fixed, AllocError>
     requires inside { e < length tree.now }
     requires has { HasFixed tree.now e }
@@ -153,7 +154,7 @@ pub(crate) fn fixed_of(
     Ok(fixed)
 }
 
-/// What is recorded of a state: its step, and x and y.
+// What is recorded of a state: its step, and x and y.
 fn recorded_at(tree: &Tree, e: u32) -> (u32, i64, i64)
     requires inside { e < length tree.now }
     requires has { HasRecorded tree.now e }
@@ -163,7 +164,7 @@ fn recorded_at(tree: &Tree, e: u32) -> (u32, i64, i64)
     (time_at(tree, e), position.x, position.y)
 }
 
-/// What is recorded of a dynamic obstacle: its initial state, and the states of its first trajectory.
+// What is recorded of a dynamic obstacle: its initial state, and the states of its first trajectory.
 fn all_recorded(alloc: Global, tree: &Tree, e: u32, start: u32) -> Result<StateList, AllocError>
     requires inside { e < length tree.now }
     requires start_inside { start < length tree.now }
@@ -179,14 +180,14 @@ fn all_recorded(alloc: Global, tree: &Tree, e: u32, start: u32) -> Result<StateL
     Ok(StateList::from_vec(recorded))
 }
 
-/// The types that have names of their own.
+// The types that have names of their own.
 fn kinds() -> &'static [NamedKind]
     ensures { map view_of result.now ≡ map key_of types }
 {
     &KINDS
 }
 
-/// The type of an obstacle that a text names.
+// The type of an obstacle that a text names.
 fn kind_of(text: &str) -> Kind
     ensures { result ≡ (type_named text.now).kind }
 {
@@ -198,7 +199,7 @@ fn kind_of(text: &str) -> Kind
     Kind::Unknown
 }
 
-/// The type of an obstacle.
+// The type of an obstacle.
 fn kind_at(tree: &Tree, e: u32) -> Kind
     requires { e < length tree.now }
     ensures { result ≡ (type_named (type_text tree.now e)).kind }
@@ -209,7 +210,7 @@ fn kind_at(tree: &Tree, e: u32) -> Kind
     }
 }
 
-/// The dynamic obstacle of an element.
+// The dynamic obstacle of an element.
 fn mover_at(alloc: Global, tree: &Tree, e: u32) -> Result<Mover, AllocError>
     requires inside { e < length tree.now }
     requires has { HasMover tree.now e }

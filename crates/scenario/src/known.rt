@@ -1,4 +1,5 @@
 //! What the checks of one element need to know of others: who has an id first, and who stands before.
+
 ghost use Rattle.std.specs.Prelude.{◌≡◌, ◌<◌, ◌++◌, ◌==◌, ℕ, List, Option, Some, None, length, nat_lt, IfOk, IsTrue, ◌↔◌, count_by};
 ghost use Rattle.std.specs.List.{All};
 ghost use Rattle.std.specs.BTreeMap.{get};
@@ -12,12 +13,10 @@ ghost use Rattle.scenario.specs.Known.{HasFirsts, IsKnown, least_of_places, firs
 use crate::numbers::read_id;
 use crate::table::Group;
 use crate::walk::along;
+use spot_terms::MOST_OBSTACLES;
 use spot_tree::Tree;
 use std::alloc::{AllocError, Global};
 use std::collections::BTreeMap;
-
-/// How many obstacles there may be.
-const MOST_OBSTACLES: usize = 4096;
 
 /// Of each group the first place of each id, and the places of the obstacles in order.
 #[derive(Drop)]
@@ -36,7 +35,7 @@ pub(crate) fn id_at(tree: &Tree, e: u32) -> Option<u32>
     read_id(tree.attr(e, "id")?)
 }
 
-/// The least of a place and one that may be known.
+// The least of a place and one that may be known.
 fn least_place(known: Option<u32>, e: u32) -> u32
     ensures { result ≡ least_of_places known e }
 {
@@ -46,8 +45,7 @@ fn least_place(known: Option<u32>, e: u32) -> u32
     }
 }
 
-/// The first place of each id among these elements, which are below `len`.
-
+// The first place of each id among these elements, which are below `len`.
 fn first_places(
     alloc: Global,
     tree: &Tree,
@@ -66,7 +64,7 @@ fn first_places(
     Ok(firsts)
 }
 
-/// The elements of a group, static obstacles before dynamic ones.
+// The elements of a group, static obstacles before dynamic ones.
 fn elements_of(alloc: Global, tree: &Tree, group: Group) -> Result<Vec<u32>, AllocError>
     ensures found { IfOk result (λ found. found.items ≡ at_paths tree.now (group_paths group)) }
     ensures within { IfOk result (λ found. All (λ e. e < length tree.now) found.items) }
@@ -74,7 +72,7 @@ fn elements_of(alloc: Global, tree: &Tree, group: Group) -> Result<Vec<u32>, All
     along(alloc, tree, group.paths())
 }
 
-/// The first place of each id of a group.
+// The first place of each id of a group.
 fn firsts_of(alloc: Global, tree: &Tree, group: Group) -> Result<BTreeMap<u32, u32>, AllocError>
     ensures { IfOk result (λ firsts. HasFirsts tree.now (at_paths tree.now (group_paths group)) (get nat_cmp firsts)) }
 {
@@ -82,7 +80,7 @@ fn firsts_of(alloc: Global, tree: &Tree, group: Group) -> Result<BTreeMap<u32, u
     first_places(alloc, tree, &elements)
 }
 
-/// The places of the obstacles, in order.
+// The places of the obstacles, in order.
 fn sorted_places(alloc: Global, tree: &Tree) -> Result<Vec<u32>, AllocError>
     ensures same { IfOk result (λ places. (e : ℕ) → count_by (λ d. nat_lt d e) places.items ≡ count_by (λ d. nat_lt d e) (at_paths tree.now obstacles)) }
     ensures sorted { IfOk result (λ places. IsNonDecreasingBy (λ x. x) places.items) }
@@ -104,7 +102,7 @@ pub(crate) fn know(alloc: Global, tree: &Tree) -> Result<Known, AllocError>
     })
 }
 
-/// The first place of an id in a group.
+// The first place of an id in a group.
 fn first_of(known: &Known, group: Group, id: u32) -> Option<u32>
     ensures { result ≡ first_in group known.now id }
 {
@@ -131,7 +129,7 @@ pub(crate) fn is_second(known: &Known, tree: &Tree, group: Group, e: u32) -> boo
     }
 }
 
-/// How many of these places, which are in order, stand before an element.
+// How many of these places, which are in order, stand before an element.
 fn count_before(places: &[u32], e: u32) -> usize
     requires { IsNonDecreasingBy (λ x. x) places.now }
     ensures { result ≡ count_by (λ d. nat_lt d e) places.now }
@@ -142,7 +140,7 @@ fn count_before(places: &[u32], e: u32) -> usize
 /// Whether as many obstacles as there may be stand before an element.
 pub(crate) fn is_excess(known: &Known, e: u32) -> bool
     requires { IsNonDecreasingBy (λ x. x) known.now.places.items }
-    ensures { IsTrue result ↔ (count_by (λ d. nat_lt d e) known.now.places.items ≡ 4096) }
+    ensures { IsTrue result ↔ (count_by (λ d. nat_lt d e) known.now.places.items ≡ MOST_OBSTACLES) }
 {
     count_before(&known.places, e) == MOST_OBSTACLES
 }

@@ -1,4 +1,5 @@
 //! The lanelets of an accepted tree.
+
 ghost use Rattle.std.specs.Prelude.{◌≡◌, ◌<◌, ◌++◌, ℕ, length, map, Some, None, nat_eq, IfOk, OnOk, codes};
 ghost use Rattle.indexmap.specs.IndexMap.{get};
 ghost use Rattle.std.specs.List.{All, AllByRecursion, filter_map};
@@ -22,8 +23,8 @@ use spot_terms::{IdList, PtList, RawLane};
 use spot_tree::Tree;
 use std::alloc::{AllocError, Global};
 
-/// Which references count.
-#[derive(Clone, Copy)]
+// Which references count.
+#[derive(Clone, Copy, Debug, PartialEq, Eq)]
 enum Link {
     /// Each.
     Any,
@@ -31,7 +32,7 @@ enum Link {
     SameDirection,
 }
 
-/// The id that an element refers to.
+// The id that an element refers to.
 fn reference_at(tree: &Tree, e: u32) -> Option<u32>
     requires { e < length tree.now }
     ensures { result ≡ the_reference_at tree.now e }
@@ -39,7 +40,7 @@ fn reference_at(tree: &Tree, e: u32) -> Option<u32>
     read_id(tree.attr(e, "ref")?)
 }
 
-/// The id that an element refers to, where it counts.
+// The id that an element refers to, where it counts.
 fn link_at(tree: &Tree, e: u32, link: Link) -> Option<u32>
     requires { e < length tree.now }
     ensures { result ≡ link_of link tree.now e }
@@ -56,7 +57,7 @@ fn link_at(tree: &Tree, e: u32, link: Link) -> Option<u32>
     }
 }
 
-/// Adds the ids that the children of a name refer to.
+// Adds the ids that the children of a name refer to.
 fn add_links(
     alloc: Global,
     tree: &Tree,
@@ -77,7 +78,7 @@ fn add_links(
     Ok(())
 }
 
-/// The ids that the children of a name refer to.
+// The ids that the children of a name refer to.
 fn links_of(alloc: Global, tree: &Tree, e: u32, name: &str) -> Result<IdList, AllocError>
     requires { e < length tree.now }
     ensures { IfOk result (λ ids. ids ≡ filter_map (link_of Link.Any tree.now) (all_named tree.now name.now e)) }
@@ -87,7 +88,7 @@ fn links_of(alloc: Global, tree: &Tree, e: u32, name: &str) -> Result<IdList, Al
     Ok(IdList::from_vec(ids))
 }
 
-/// The ids of the neighbours to both sides that are driven in the same direction.
+// The ids of the neighbours to both sides that are driven in the same direction.
 fn sides_of(alloc: Global, tree: &Tree, e: u32) -> Result<IdList, AllocError>
     requires { e < length tree.now }
     ensures { IfOk result (λ ids. ids ≡ filter_map (link_of Link.SameDirection tree.now) (all_named tree.now (codes "adjacentLeft") e)
@@ -113,7 +114,7 @@ fn sides_of(alloc: Global, tree: &Tree, e: u32) -> Result<IdList, AllocError>
     Ok(IdList::from_vec(ids))
 }
 
-/// The points of these elements.
+// The points of these elements.
 fn points_of(alloc: Global, tree: &Tree, elements: &[u32]) -> Result<PtList, AllocError>
     requires inside { All (λ e. e < length tree.now) elements.now }
     requires has { HasPoints tree.now elements.now }
@@ -128,7 +129,7 @@ fn points_of(alloc: Global, tree: &Tree, elements: &[u32]) -> Result<PtList, All
     Ok(PtList::from_vec(points))
 }
 
-/// The points of a bound, by the way to them.
+// The points of a bound, by the way to them.
 fn bound_at(alloc: Global, tree: &Tree, e: u32, way: Path) -> Result<PtList, AllocError>
     requires inside { e < length tree.now }
     requires has { HasPoints tree.now (below tree.now e (map step_of way.now)) }
@@ -139,7 +140,7 @@ fn bound_at(alloc: Global, tree: &Tree, e: u32, way: Path) -> Result<PtList, All
     points_of(alloc, tree, &elements)
 }
 
-/// The lanelet of an element.
+// The lanelet of an element.
 fn lane_at(alloc: Global, tree: &Tree, e: u32) -> Result<RawLane, AllocError>
     requires inside { e < length tree.now }
     requires has { HasLane tree.now e }
@@ -155,7 +156,7 @@ fn lane_at(alloc: Global, tree: &Tree, e: u32) -> Result<RawLane, AllocError>
     })
 }
 
-/// Adds the lanelet of an element, whose id isn't there yet.
+// Adds the lanelet of an element, whose id isn't there yet.
 fn add_lane(
     alloc: Global,
     tree: &Tree,

@@ -17,6 +17,10 @@ mod values;
 mod walk;
 
 pub use read::{ReadFault, read_scenario};
+pub use spot_terms::{
+    Code, Fixed, FixedList, IdList, Kind, Mover, Movers, Problem, Problems, PtList, RawLane,
+    Scenario, StateList,
+};
 
 /// A tree that bytes say has one refusal at most: one place, and one code there.
 pub fn a_tree_has_one_refusal()
@@ -28,7 +32,5 @@ pub fn a_tree_has_one_scenario()
     ensures { TreeHasOneScenario }
 {}
 
-#[cfg(test)]
-mod refusals;
 #[cfg(test)]
 mod tests;

@@ -1,4 +1,5 @@
 //! The numbers and ids that texts stand for.
+
 ghost use Rattle.std.specs.Prelude.{◌≡◌, ◌⊎◌, ◌↔◌, ℕ, ◌*◌, ◌≤◌, ◌<ℤ◌, length, pos, IsTrue, IfSome, IfNone};
 ghost use Rattle.spot_terms.specs.Decimal.{Reads};
 ghost use Rattle.spot_claims.specs.Paths.{id_of};
@@ -7,18 +8,19 @@ ghost use Rattle.scenario.specs.Table.{number_of};
 
 use crate::table::Number;
 use spot_decimal::{NumberFault, read_decimal, read_digits};
+use spot_terms::MOST_TICKS;
 
-/// The most digits of an id.
+// The most digits of an id.
 const MOST_DIGITS: usize = 10;
 
-/// The least step size, in millionths of a second: one tick.
-const LEAST_STEP_SIZE: i128 = 1_000;
-
-/// The greatest step size, in millionths of a second: one second.
-const MOST_STEP_SIZE: i128 = 1_000_000;
-
-/// The millionths of a second in a tick.
+// The millionths of a second in a tick.
 const TICK: u32 = 1_000;
+
+// The least step size, in millionths of a second: one tick.
+const LEAST_STEP_SIZE: i128 = TICK as i128;
+
+// The greatest step size, in millionths of a second: as many ticks as a step may have.
+const MOST_STEP_SIZE: i128 = (TICK * MOST_TICKS) as i128;
 
 /// The id that a text stands for: one to ten digits, for a number of at most 4,294,967,295.
 pub(crate) fn read_id(text: &str) -> Option<u32>
@@ -56,7 +58,7 @@ pub(crate) fn is_too_large(text: &str) -> bool
     }
 }
 
-/// Whether a reading is outside the range of a number.
+// Whether a reading is outside the range of a number.
 fn is_past(reading: i128, number: &Number) -> bool
     ensures { IsTrue result ↔ ((reading <ℤ number.now.least) ⊎ (number.now.most <ℤ reading)) }
 {
@@ -73,10 +75,10 @@ pub(crate) fn is_outside(text: &str, number: &Number) -> bool
     }
 }
 
-/// The ticks of a step size, exactly where it is a multiple of 1,000 from 1,000 to 1,000,000.
+// The ticks of a step size, exactly where it is a multiple of 1,000 from 1,000 to 1,000,000.
 fn ticks_of(size: i128) -> Option<u32>
-    ensures some { IfSome result (λ ticks. (1 ≤ ticks) × (ticks ≤ 1000) × (size ≡ pos (1000 * ticks))) }
-    ensures none { IfNone result ((k : ℕ) → 1 ≤ k → k ≤ 1000 → size ≡ pos (1000 * k) → ⊥) }
+    ensures some { IfSome result (λ ticks. (1 ≤ ticks) × (ticks ≤ MOST_TICKS) × (size ≡ pos (1000 * ticks))) }
+    ensures none { IfNone result ((k : ℕ) → 1 ≤ k → k ≤ MOST_TICKS → size ≡ pos (1000 * k) → ⊥) }
 {
     if size < LEAST_STEP_SIZE || MOST_STEP_SIZE < size {
         return None;
@@ -91,7 +93,7 @@ fn ticks_of(size: i128) -> Option<u32>
 
 /// The ticks that a text says in millionths of a second, exactly where it is a number of whole ticks from 1 to 1,000.
 pub(crate) fn step_in(text: &str) -> Option<u32>
-    ensures some { IfSome result (λ ticks. (1 ≤ ticks) × (ticks ≤ 1000) × Reads 6 text.now (pos (1000 * ticks))) }
+    ensures some { IfSome result (λ ticks. (1 ≤ ticks) × (ticks ≤ MOST_TICKS) × Reads 6 text.now (pos (1000 * ticks))) }
     ensures none { IfNone result (IsTrue (is_bad text.now) ⊎ IsUneven text.now) }
     ensures uneven { IfSome result (λ ticks. IsUneven text.now → ⊥) }
 {

@@ -1,5 +1,6 @@
 //! The scenario of a tree, or its refusal.
-ghost use Rattle.std.specs.Prelude.{◌+◌, ◌*◌, ◌≤◌, length, pos, OnOk, IfOk, IfErr};
+
+ghost use Rattle.std.specs.Prelude.{◌≡◌, ◌+◌, ◌*◌, ◌≤◌, length, pos, OnOk, IfOk, IfErr};
 ghost use Rattle.std.specs.List.{AllByRecursion};
 ghost use Rattle.spot_terms.specs.Decimal.{Reads};
 ghost use Rattle.spot_terms.specs.Lists.{Pairwise};
@@ -18,7 +19,7 @@ use crate::lanes::lanes_of;
 use crate::numbers::step_in;
 use crate::table::{DYNAMICS, PROBLEMS, STATICS};
 use crate::walk::walk;
-use spot_terms::{Code, FixedList, Movers, Problems, Scenario};
+use spot_terms::{Code, FixedList, MOST_OBSTACLES, MOST_TICKS, Movers, Problems, Scenario};
 use spot_tree::Tree;
 use std::alloc::{AllocError, Global};
 use thiserror::Error;
@@ -34,25 +35,34 @@ pub enum ReadFault {
     Memory,
 }
 
-/// Whether no check of the profile fails. Otherwise the refusal is the failing check at the least place, and at one place
-/// the first of the element's line.
+impl From<AllocError> for ReadFault {
+    ghost use Rattle.scenario.specs.declared.read.ReadFault.TheVariants.{Memory};
+
+    ghost from_gives = { λ _ fault. fault ≡ Memory };
+
+    fn from(_error: AllocError) -> ReadFault {
+        ReadFault::Memory
+    }
+}
+
+// Whether no check of the profile fails. Otherwise the refusal is the failing check at the least place, and at one place
+// the first of the element's line.
 fn accept(alloc: Global, tree: &Tree) -> Result<(), ReadFault>
     ensures ok { OnOk result (IsAccepted tree.now) }
     ensures err { IfErr result (λ fault. IsWhy tree.now fault) }
 {
-    match first_fault(alloc, tree) {
-        Ok(None) => Ok(()),
-        Ok(Some(fault)) => Err(ReadFault::Refused(fault.code, fault.place)),
-        Err(_) => Err(ReadFault::Memory),
+    match first_fault(alloc, tree)? {
+        None => Ok(()),
+        Some(fault) => Err(ReadFault::Refused(fault.code, fault.place)),
     }
 }
 
-/// The ticks of a step.
+// The ticks of a step.
 fn step_of(tree: &Tree) -> u32
     requires { IsAccepted tree.now }
     ensures reads { Reads 6 (step_size_text tree.now) (pos (1000 * result)) }
     ensures low { 1 ≤ result }
-    ensures high { result ≤ 1000 }
+    ensures high { result ≤ MOST_TICKS }
 {
     match step_in(text_of_step(tree)) {
         Some(ticks) => ticks,
@@ -60,7 +70,7 @@ fn step_of(tree: &Tree) -> u32
     }
 }
 
-/// The dynamic obstacles.
+// The dynamic obstacles.
 fn movers_in(alloc: Global, tree: &Tree) -> Result<Movers, AllocError>
     requires { IsAccepted tree.now }
     ensures are { IfOk result (λ movers. Pairwise (IsMover tree.now) (at_path tree.now dynamics) movers) }
@@ -71,7 +81,7 @@ fn movers_in(alloc: Global, tree: &Tree) -> Result<Movers, AllocError>
     Ok(Movers::from_vec(movers_of(alloc, tree, &elements)?))
 }
 
-/// The static obstacles.
+// The static obstacles.
 fn fixed_in(alloc: Global, tree: &Tree) -> Result<FixedList, AllocError>
     requires { IsAccepted tree.now }
     ensures are { IfOk result (λ fixed. Pairwise (IsFixed tree.now) (at_path tree.now statics) fixed) }
@@ -82,7 +92,7 @@ fn fixed_in(alloc: Global, tree: &Tree) -> Result<FixedList, AllocError>
     Ok(FixedList::from_vec(fixed_of(alloc, tree, &elements)?))
 }
 
-/// The planning problems.
+// The planning problems.
 fn problems_in(alloc: Global, tree: &Tree) -> Result<Problems, AllocError>
     requires { IsAccepted tree.now }
     ensures are { IfOk result (λ problems. Pairwise (IsProblem tree.now) (at_path tree.now problem_path) problems) }
@@ -93,16 +103,16 @@ fn problems_in(alloc: Global, tree: &Tree) -> Result<Problems, AllocError>
     Ok(Problems::from_vec(problems_of(alloc, tree, &elements)?))
 }
 
-/// There are at most 4,096 obstacles.
+// There are at most 4,096 obstacles.
 fn few_obstacles(tree: &Tree)
     requires { IsAccepted tree.now }
-    ensures { length (at_path tree.now dynamics) + length (at_path tree.now statics) ≤ 4096 }
+    ensures { length (at_path tree.now dynamics) + length (at_path tree.now statics) ≤ MOST_OBSTACLES }
 {
     prove!(0 < tree.len());
     let _children = tree.children(0);
 }
 
-/// The scenario of an accepted tree.
+// The scenario of an accepted tree.
 fn values_of(alloc: Global, tree: &Tree) -> Result<Scenario, AllocError>
     requires { IsAccepted tree.now }
     ensures is { IfOk result (λ s. IsScenario tree.now s) }
@@ -141,8 +151,5 @@ pub fn read_scenario(alloc: Global, tree: &Tree) -> Result<Scenario, ReadFault>
     ensures err { IfErr result (λ fault. IsWhy tree.now fault) }
 {
     accept(alloc, tree)?;
-    match values_of(alloc, tree) {
-        Ok(scenario) => Ok(scenario),
-        Err(_) => Err(ReadFault::Memory),
-    }
+    Ok(values_of(alloc, tree)?)
 }

@@ -1,4 +1,5 @@
 //! The radii of shapes.
+
 ghost use Rattle.std.specs.Prelude.{◌≡◌, ◌<◌, ◌≤◌, ◌+◌, ◌*◌, ℕ, length, pos, codes, IfOk, IfSome, IfNone};
 ghost use Rattle.std.specs.List.{All};
 ghost use Rattle.spot_terms.specs.Lists.{Includes};
@@ -14,19 +15,19 @@ use crate::table::{SHAPE_COORDINATE_RANGE, SIZE_RANGE};
 use crate::values::{number_at, point_at};
 use crate::walk::each_child;
 use spot_num::isqrt_ceil;
-use spot_terms::Pt;
+use spot_terms::{MOST_RADIUS, MOST_SHAPE, Pt};
 use spot_tree::Tree;
 use std::alloc::{AllocError, Global};
 
 /// The enclosing and the inscribed radius of a shape or of a part of one, in micrometres.
-#[derive(Clone, Copy)]
+#[derive(Clone, Copy, Debug, PartialEq, Eq)]
 pub(crate) struct Radii {
     pub(crate) enclosing: u64,
     pub(crate) inscribed: u64,
 }
 
-/// A kind of part of a shape.
-#[derive(Clone, Copy)]
+// A kind of part of a shape.
+#[derive(Clone, Copy, Debug, PartialEq, Eq)]
 enum Part {
     Circle,
     Rectangle,
@@ -34,7 +35,7 @@ enum Part {
 }
 
 impl Part {
-    /// The name of such a part.
+    // The name of such a part.
     fn name(self) -> &'static str
         ensures { result.now ≡ name_of self }
     {
@@ -46,20 +47,20 @@ impl Part {
     }
 }
 
-/// A number from 0 to 100,000,000 in the first child of a name, in micrometres.
+// A number from 0 to 100,000,000 in the first child of a name, in micrometres.
 fn size_at(tree: &Tree, e: u32, name: &str) -> u64
     requires inside { e < length tree.now }
     requires has { HasNumber tree.now e name.now size }
     ensures holds { Holds tree.now e name.now 6 (pos result) }
-    ensures within { result ≤ 100_000_000 }
+    ensures within { result ≤ MOST_SHAPE }
 {
     number_at(tree, e, name, &SIZE_RANGE) as u64
 }
 
-/// The least whole distance that a point is at most away from the origin.
+// The least whole distance that a point is at most away from the origin.
 fn distance(p: Pt) -> u64
-    requires x { SizeAtMost 100_000_000 p.x }
-    requires y { SizeAtMost 100_000_000 p.y }
+    requires x { SizeAtMost MOST_SHAPE p.x }
+    requires y { SizeAtMost MOST_SHAPE p.y }
     ensures least { IsRootCeiling (square p.x + square p.y) result }
     ensures within { result ≤ 141_421_357 }
 {
@@ -68,7 +69,7 @@ fn distance(p: Pt) -> u64
     isqrt_ceil(x * x + y * y)
 }
 
-/// How far the centre of a part is from the position of its shape: 0 without one.
+// How far the centre of a part is from the position of its shape: 0 without one.
 fn offset_at(tree: &Tree, e: u32) -> u64
     requires inside { e < length tree.now }
     requires has { HasCenter tree.now e }
@@ -81,13 +82,13 @@ fn offset_at(tree: &Tree, e: u32) -> u64
     }
 }
 
-/// The radii of a circle: its radius, with the offset added and taken away, but not below 0.
+// The radii of a circle: its radius, with the offset added and taken away, but not below 0.
 fn circle_at(tree: &Tree, e: u32) -> Radii
     requires inside { e < length tree.now }
     requires has { HasCircle tree.now e }
     ensures is { CircleIs tree.now e result.enclosing result.inscribed }
-    ensures within { result.enclosing ≤ 250_000_000 }
-    ensures inner { result.inscribed ≤ 250_000_000 }
+    ensures within { result.enclosing ≤ MOST_RADIUS }
+    ensures inner { result.inscribed ≤ MOST_RADIUS }
 {
     let radius = size_at(tree, e, "radius");
     let offset = offset_at(tree, e);
@@ -97,24 +98,24 @@ fn circle_at(tree: &Tree, e: u32) -> Radii
     }
 }
 
-/// The least whole number that is at least half the diagonal of a rectangle.
+// The least whole number that is at least half the diagonal of a rectangle.
 fn half_diagonal(length: u64, width: u64) -> u64
-    requires length { length ≤ 100_000_000 }
-    requires width { width ≤ 100_000_000 }
+    requires length { length ≤ MOST_SHAPE }
+    requires width { width ≤ MOST_SHAPE }
     ensures least { IsLeast (λ q. length * length + width * width ≤ 4 * (q * q)) result }
-    ensures within { result ≤ 100_000_000 }
+    ensures within { result ≤ MOST_SHAPE }
 {
     let square = length as u128 * length as u128 + width as u128 * width as u128;
     isqrt_ceil((square + 3) / 4)
 }
 
-/// The radii of a rectangle: half its diagonal, and half its lesser side, rounded down; with the offset as in a circle.
+// The radii of a rectangle: half its diagonal, and half its lesser side, rounded down; with the offset as in a circle.
 fn rectangle_at(tree: &Tree, e: u32) -> Radii
     requires inside { e < length tree.now }
     requires has { HasRectangle tree.now e }
     ensures is { RectangleIs tree.now e result.enclosing result.inscribed }
-    ensures within { result.enclosing ≤ 250_000_000 }
-    ensures inner { result.inscribed ≤ 250_000_000 }
+    ensures within { result.enclosing ≤ MOST_RADIUS }
+    ensures inner { result.inscribed ≤ MOST_RADIUS }
 {
     let length = size_at(tree, e, "length");
     let width = size_at(tree, e, "width");
@@ -125,12 +126,12 @@ fn rectangle_at(tree: &Tree, e: u32) -> Radii
     }
 }
 
-/// The least whole distance that all these corners are at most away from the origin.
+// The least whole distance that all these corners are at most away from the origin.
 fn reach_of(tree: &Tree, corners: &[u32]) -> u64
     requires inside { All (λ e. e < length tree.now) corners.now }
     requires has { HasCorners tree.now corners.now }
     ensures is { IsReach tree.now corners.now result }
-    ensures within { result ≤ 250_000_000 }
+    ensures within { result ≤ MOST_RADIUS }
 {
     let mut reach: u64 = 0;
     for corner in corners {
@@ -139,13 +140,13 @@ fn reach_of(tree: &Tree, corners: &[u32]) -> u64
     reach
 }
 
-/// The radii of a polygon: the distance of its farthest corner, and 0.
+// The radii of a polygon: the distance of its farthest corner, and 0.
 fn polygon_at(alloc: Global, tree: &Tree, e: u32) -> Result<Radii, AllocError>
     requires inside { e < length tree.now }
     requires has { HasCorners tree.now (all_named tree.now (codes "point") e) }
     ensures is { IfOk result (λ r. PolygonIs tree.now e r.enclosing r.inscribed) }
-    ensures within { IfOk result (λ r. r.enclosing ≤ 250_000_000) }
-    ensures inner { IfOk result (λ r. r.inscribed ≤ 250_000_000) }
+    ensures within { IfOk result (λ r. r.enclosing ≤ MOST_RADIUS) }
+    ensures inner { IfOk result (λ r. r.inscribed ≤ MOST_RADIUS) }
 {
     let corners = each_child(alloc, tree, "point", &[e])?;
     Ok(Radii {
@@ -154,7 +155,7 @@ fn polygon_at(alloc: Global, tree: &Tree, e: u32) -> Result<Radii, AllocError>
     })
 }
 
-/// The greater of each of the radii, where there are any.
+// The greater of each of the radii, where there are any.
 fn greater(a: Option<Radii>, b: Option<Radii>) -> Option<Radii>
     ensures { result ≡ greater_of a b }
 {
@@ -168,7 +169,7 @@ fn greater(a: Option<Radii>, b: Option<Radii>) -> Option<Radii>
     }
 }
 
-/// The radii of a part.
+// The radii of a part.
 fn part_at(alloc: Global, tree: &Tree, part: Part, e: u32) -> Result<Radii, AllocError>
     requires inside { e < length tree.now }
     requires has { HasPart part tree.now e }
@@ -182,7 +183,7 @@ fn part_at(alloc: Global, tree: &Tree, part: Part, e: u32) -> Result<Radii, Allo
     }
 }
 
-/// The greatest radii of the parts of one kind, where there are any.
+// The greatest radii of the parts of one kind, where there are any.
 fn parts_of(alloc: Global, tree: &Tree, shape: u32, part: Part) -> Result<Option<Radii>, AllocError>
     requires inside { shape < length tree.now }
     requires has { (e : ℕ) → Includes (all_named tree.now (name_of part) shape) e → HasPart part tree.now e }

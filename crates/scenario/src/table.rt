@@ -4,10 +4,10 @@ ghost use Rattle.std.specs.Prelude.{◌≡◌, ◌≤◌, map};
 ghost use Rattle.spot_claims.specs.Profile.{profile, code_of};
 ghost use Rattle.scenario.specs.Table.{line_of, check_of, places_of, path_of, group_paths};
 
-use spot_terms::Code;
+use spot_terms::{Code, MOST_ANGLE, MOST_COORDINATE, MOST_SHAPE, MOST_SPEED, MOST_TIME};
 
 /// A step of a path: to each child of a name, or to the first.
-#[derive(Clone, Copy)]
+#[derive(Clone, Copy, Debug, PartialEq, Eq)]
 pub(crate) enum Step {
     Each(&'static str),
     First(&'static str),
@@ -16,7 +16,7 @@ pub(crate) enum Step {
 pub(crate) type Path = &'static [Step];
 
 /// The elements that have ids of their own, and none of them twice.
-#[derive(Clone, Copy, PartialEq, Eq)]
+#[derive(Clone, Copy, Debug, PartialEq, Eq)]
 pub(crate) enum Group {
     Lanelets,
     Obstacles,
@@ -37,7 +37,7 @@ impl Group {
 }
 
 /// What a number counts: wholes, thousandths or millionths.
-#[derive(Clone, Copy)]
+#[derive(Clone, Copy, Debug, PartialEq, Eq)]
 pub(crate) enum Unit {
     Whole,
     Milli,
@@ -59,7 +59,7 @@ impl Unit {
 }
 
 /// What a number is read as: what it counts, and its range.
-#[derive(Clone, Copy)]
+#[derive(Clone, Copy, Debug, PartialEq, Eq)]
 pub(crate) struct Number {
     pub(crate) unit: Unit,
     pub(crate) least: i64,
@@ -67,7 +67,7 @@ pub(crate) struct Number {
 }
 
 /// A check of an element.
-#[derive(Clone, Copy)]
+#[derive(Clone, Copy, Debug, PartialEq, Eq)]
 pub(crate) enum Check {
     /// The name isn't `commonRoad`.
     WrongRoot,
@@ -81,7 +81,7 @@ pub(crate) enum Check {
     LargeStepSize,
     /// The step size is no whole number of ticks from 1 to 1,000.
     UnevenStepSize,
-    /// There is no id.
+    /// The attribute `id` is not there, or is no id.
     BadId,
     /// An element of the group that stands before has the same id.
     DuplicateId(Group),
@@ -100,7 +100,7 @@ pub(crate) enum Check {
 }
 
 /// The elements that are read so, each by a path to where it begins and a way on from there, and their checks in order.
-#[derive(Clone, Copy)]
+#[derive(Clone, Copy, Debug, PartialEq, Eq)]
 pub(crate) struct Line {
     pub(crate) starts: &'static [Path],
     pub(crate) ways: &'static [Path],
@@ -110,43 +110,43 @@ pub(crate) struct Line {
 /// A coordinate of a bound or a position, in micrometres.
 pub(crate) const COORDINATE_RANGE: Number = Number {
     unit: Unit::Micro,
-    least: -10_000_000_000_000,
-    most: 10_000_000_000_000,
+    least: -(MOST_COORDINATE as i64),
+    most: MOST_COORDINATE as i64,
 };
 
 /// A coordinate of a corner or a centre of a shape, in micrometres.
 pub(crate) const SHAPE_COORDINATE_RANGE: Number = Number {
     unit: Unit::Micro,
-    least: -100_000_000,
-    most: 100_000_000,
+    least: -(MOST_SHAPE as i64),
+    most: MOST_SHAPE as i64,
 };
 
 /// A length, a width or a radius, in micrometres.
 pub(crate) const SIZE_RANGE: Number = Number {
     unit: Unit::Micro,
     least: 0,
-    most: 100_000_000,
+    most: MOST_SHAPE as i64,
 };
 
 /// An angle, in millionths of a radian.
 pub(crate) const ANGLE_RANGE: Number = Number {
     unit: Unit::Micro,
-    least: -7_000_000,
-    most: 7_000_000,
+    least: -(MOST_ANGLE as i64),
+    most: MOST_ANGLE as i64,
 };
 
 /// A speed, in millimetres a second.
 pub(crate) const SPEED_RANGE: Number = Number {
     unit: Unit::Milli,
-    least: -200_000,
-    most: 200_000,
+    least: -(MOST_SPEED as i64),
+    most: MOST_SPEED as i64,
 };
 
 /// A time, in steps.
 pub(crate) const TIME_RANGE: Number = Number {
     unit: Unit::Whole,
     least: 0,
-    most: 1_000_000,
+    most: MOST_TIME as i64,
 };
 
 const ROOT: Path = &[];
@@ -333,7 +333,7 @@ const SPEED: &[Check] = &[Check::BadNumber, Check::OutOfRange(SPEED_RANGE)];
 
 const TIME: &[Check] = &[Check::BadNumber, Check::OutOfRange(TIME_RANGE)];
 
-/// All lines.
+// All lines.
 const PROFILE: [Line; 24] = [
     Line {
         starts: &[ROOT],

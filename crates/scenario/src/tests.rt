@@ -1,9 +1,10 @@
+mod refusals;
+
 use super::*;
-use spot_terms::{Fixed, Kind, Problem};
 use spot_tree::read_tree;
 use std::test::Fail;
 
-/// A scenario with a lanelet, an obstacle of each kind, and a problem.
+// A scenario with a lanelet, an obstacle of each kind, and a problem.
 const ACCEPTED: &str = r#"["commonRoad",{"commonRoadVersion":"2020a","timeStepSize":"0.1"},
 ["lanelet",{"id":"1"},
 ["leftBound",["point",["x","0"],["y","3.5"]],["point",["x","10"],["y","3.5"]]],
@@ -68,5 +69,40 @@ fn an_accepted_tree_is_read(rt: HostRuntime) -> Result<(), Fail> {
         angle: -1_000_000,
     };
     assert_eq!(rt; scenario.problems.list(), [problem].as_slice());
+    Ok(())
+}
+
+// Static obstacles that are rectangles: with an odd lesser side, and with centres near to and past half of it.
+const RECTANGLES: &str = r#"["commonRoad",{"commonRoadVersion":"2020a","timeStepSize":"0.1"},
+["staticObstacle",{"id":"1"},["shape",["rectangle",["length","4.500001"],["width","1.800001"]]],
+["initialState",["position",["point",["x","0"],["y","0"]]]]],
+["staticObstacle",{"id":"2"},
+["shape",["rectangle",["length","1.800003"],["width","4.5"],["center",["x","0.3"],["y","-0.4"]]]],
+["initialState",["position",["point",["x","0"],["y","0"]]]]],
+["staticObstacle",{"id":"3"},
+["shape",["rectangle",["length","4.5"],["width","1.8"],["center",["x","0.900001"],["y","0"]]]],
+["initialState",["position",["point",["x","0"],["y","0"]]]]],
+["staticObstacle",{"id":"4"},
+["shape",["rectangle",["length","4.5"],["width","1.8"],["center",["x","0"],["y","0.899999"]]]],
+["initialState",["position",["point",["x","0"],["y","0"]]]]],
+["staticObstacle",{"id":"5"},["shape",["rectangle",["length","0.000001"],["width","0.000001"]]],
+["initialState",["position",["point",["x","0"],["y","0"]]]]]]"#;
+
+#[test]
+fn the_radii_of_rectangles(rt: HostRuntime) -> Result<(), Fail> {
+    assert!(rt; RECTANGLES.len() <= 10_000);
+    let tree = read_tree(rt.alloc(), RECTANGLES.as_bytes())?;
+    let scenario = read_scenario(rt.alloc(), &tree)?;
+    let expected = [
+        (1, 2_423_325, 900_000),
+        (2, 2_923_325, 400_001),
+        (3, 3_323_326, 0),
+        (4, 3_323_324, 1),
+        (5, 1, 0),
+    ];
+    assert_eq!(rt; scenario.fixed.list().len(), expected.len());
+    for (fixed, wanted) in scenario.fixed.list().iter().zip(expected) {
+        assert_eq!(rt; (fixed.id, fixed.enclosing, fixed.inscribed), wanted);
+    }
     Ok(())
 }

@@ -1,4 +1,5 @@
 //! The numbers and points of an accepted tree.
+
 ghost use Rattle.std.specs.Prelude.{◌≡◌, ◌<◌, ◌≤◌, length, pos, codes};
 ghost use Rattle.spot_terms.specs.Whole.{Within, SizeAtMost};
 ghost use Rattle.spot_terms.specs.Decimal.{Reads};
@@ -10,10 +11,10 @@ ghost use Rattle.scenario.specs.Has.{IsGood, HasNumber, HasPoint, HasExact, HasP
 
 use crate::table::{ANGLE_RANGE, COORDINATE_RANGE, Number, SPEED_RANGE, TIME_RANGE};
 use spot_decimal::read_decimal;
-use spot_terms::Pt;
+use spot_terms::{MOST_ANGLE, MOST_COORDINATE, MOST_SPEED, MOST_TIME, Pt};
 use spot_tree::Tree;
 
-/// The number that a text says, which is one in its range.
+// The number that a text says, which is one in its range.
 fn number_in(text: &str, number: &Number) -> i64
     requires { IsGood (number_of number.now) text.now }
     ensures reads { Reads (number_of number.now).places text.now result }
@@ -53,7 +54,7 @@ pub(crate) fn point_at(tree: &Tree, e: u32, number: &Number) -> Pt
     }
 }
 
-/// The number in `exact` in the first child of a name.
+// The number in `exact` in the first child of a name.
 fn exact_at(tree: &Tree, e: u32, name: &str, number: &Number) -> i64
     requires inside { e < length tree.now }
     requires has { HasExact tree.now e name.now (number_of number.now) }
@@ -71,8 +72,8 @@ pub(crate) fn position_at(tree: &Tree, e: u32) -> Pt
     requires inside { e < length tree.now }
     requires has { HasPosition tree.now e }
     ensures holds { HoldsPosition tree.now e result.x result.y }
-    ensures x_within { SizeAtMost 10_000_000_000_000 result.x }
-    ensures y_within { SizeAtMost 10_000_000_000_000 result.y }
+    ensures x_within { SizeAtMost MOST_COORDINATE result.x }
+    ensures y_within { SizeAtMost MOST_COORDINATE result.y }
 {
     let Some(position) = tree.child(e, "position") else {
         unreachable!()
@@ -88,7 +89,7 @@ pub(crate) fn time_at(tree: &Tree, e: u32) -> u32
     requires inside { e < length tree.now }
     requires has { HasExact tree.now e (codes "time") step_number }
     ensures holds { HoldsExact tree.now e (codes "time") 0 (pos result) }
-    ensures within { result ≤ 1_000_000 }
+    ensures within { result ≤ MOST_TIME }
 {
     exact_at(tree, e, "time", &TIME_RANGE) as u32
 }
@@ -98,7 +99,7 @@ pub(crate) fn speed_at(tree: &Tree, e: u32) -> i64
     requires inside { e < length tree.now }
     requires has { HasExact tree.now e (codes "velocity") speed }
     ensures holds { HoldsExact tree.now e (codes "velocity") 3 result }
-    ensures within { SizeAtMost 200_000 result }
+    ensures within { SizeAtMost MOST_SPEED result }
 {
     exact_at(tree, e, "velocity", &SPEED_RANGE)
 }
@@ -108,7 +109,7 @@ pub(crate) fn angle_at(tree: &Tree, e: u32) -> i64
     requires inside { e < length tree.now }
     requires has { HasExact tree.now e (codes "orientation") angle }
     ensures holds { HoldsExact tree.now e (codes "orientation") 6 result }
-    ensures within { SizeAtMost 7_000_000 result }
+    ensures within { SizeAtMost MOST_ANGLE result }
 {
     exact_at(tree, e, "orientation", &ANGLE_RANGE)
 }

@@ -1,4 +1,5 @@
 //! From elements along paths to others.
+
 ghost use Rattle.std.specs.Prelude.{◌≡◌, ◌<◌, ◌++◌, map, length, IfOk, OnOk};
 ghost use Rattle.std.specs.List.{All};
 ghost use Rattle.spot_claims.specs.Tree.{all_named};
@@ -10,7 +11,7 @@ use crate::table::{Path, Step};
 use spot_tree::Tree;
 use std::alloc::{AllocError, Global};
 
-/// Adds the children of a name of an element, which is below `len`, in document order.
+// Adds the children of a name of an element, which is below `len`, in document order.
 fn add_named(tree: &Tree, name: &str, e: u32, found: &mut Vec<u32>) -> Result<(), AllocError>
     requires inside { e < length tree.now }
     requires within { All (λ e. e < length tree.now) found.old.items }
@@ -44,7 +45,7 @@ pub(crate) fn each_child(
     Ok(found)
 }
 
-/// The first child of a name of each of these elements, which are below `len`.
+// The first child of a name of each of these elements, which are below `len`.
 fn first_child(
     alloc: Global,
     tree: &Tree,
@@ -64,7 +65,7 @@ fn first_child(
     Ok(found)
 }
 
-/// The elements that a step leads to from these, which are below `len`. They are below `len` too.
+// The elements that a step leads to from these, which are below `len`. They are below `len` too.
 fn take_step(
     alloc: Global,
     tree: &Tree,

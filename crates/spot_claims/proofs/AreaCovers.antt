@@ -1,19 +1,19 @@
 -- A run whose lists hold each motion, or strike it, gives a report that covers the ego.
-use Rattle.std.proofs.Common.{◌≡◌, ◌∙◌, ◌⊎◌, inl, inr, ℕ, zero, suc, ◌+◌, ◌-◌, ◌*◌, ◌<◌, ◌≤◌, refl, sym, ap, subst, arith, List, [], ◌∷◌, ◌++◌, map, length, Option, Some, None, get_or}
+use Rattle.std.proofs.Common.{◌≡◌, ◌⊎◌, inl, inr, ℕ, zero, suc, ◌+◌, ◌*◌, ◌<◌, ◌≤◌, refl, sym, subst, arith, List, [], ◌∷◌, ◌++◌, map, length, Option, Some, None, get_or}
 use Rattle.std.specs.Prelude.{slice_get}
 use Rattle.std.specs.List.{flat_map}
 use Rattle.std.proofs.lemmas.Option.{slice_get_within, slice_get-get_or}
 use Rattle.spot_terms.specs.Avoidance.{HoldsOrStrikes, IsHeldBy, IsStruckBy}
-use Rattle.spot_terms.specs.BaseSets.{SetValue, HoldsState}
+use Rattle.spot_terms.specs.BaseSets.{SetValue}
 use Rattle.spot_terms.specs.Courses.{Course, IsMotionOf}
 use Rattle.spot_terms.specs.LanePolygons.{LanePolygon}
-use Rattle.spot_terms.specs.Lists.{Includes, Pairwise, numbers_below}
+use Rattle.spot_terms.specs.Lists.{Includes, numbers_below}
 use Rattle.spot_terms.specs.Motions.{State}
 use Rattle.spot_terms.specs.OccupiedPieces.{discs}
 use Rattle.spot_terms.specs.declared.lines.Mode.TheVariants as mode
 use Rattle.spot_terms.specs.Pieces.{Piece, Hits}
 use Rattle.spot_terms.specs.Reach.{interval_numbers}
-use Rattle.spot_terms.specs.Report.{Line, head_line, time_line, mover_line, late_line, fixed_line, lane_line, occ_line, ego_line, disc_line, set_line, count_line, last_line}
+use Rattle.spot_terms.specs.Report.{Line, head_line, time_line, occ_line, ego_line, disc_line, set_line, count_line, last_line}
 use Rattle.spot_terms.specs.StepLists.{Follow, AreStepLists}
 use Rattle.spot_terms.specs.declared.command.Command.{Command}
 use Rattle.spot_terms.specs.declared.command.Task.{Task}
@@ -29,8 +29,8 @@ use Rattle.spot_terms.specs.declared.scenario.Scenario.{Scenario}
 use Rattle.spot_terms.proofs.ListLemmas.{includes_front, includes_back, includes_either, includes_map}
 use Rattle.spot_terms.proofs.Members.{in_map, in_flat_map}
 use Rattle.spot_claims.specs.AreaCovers.{Avoids, HasVelocities, AreaCovers, ReplayCovers}
-use Rattle.spot_claims.specs.AreaOf.{ArePieces, IsRun, IsAreaReport, IsReplayReport, step_lines, lines_from, area_lines}
-use Rattle.spot_claims.specs.EgoClaims.{CoversEgo, IsEgoLine, IsStruck, HasEntered, HasCollided}
+use Rattle.spot_claims.specs.AreaOf.{IsRun, step_lines, lines_from, area_lines}
+use Rattle.spot_claims.specs.EgoClaims.{CoversEgo, IsStruck, IsStruckIn, HasEntered, HasCollided}
 use Rattle.spot_claims.specs.Problems.{course_of, ego_of, ego_radius}
 use Rattle.spot_claims.specs.ReportOf.{IsTraffic, IsObstacleLine, start_of, movers_in, polygon_line, polygon_lines, occ_lines, fixed_of}
 use Rattle.spot_claims.proofs.Entered.{struck_is_entered, struck_is_collided, from_second}
@@ -115,7 +115,7 @@ set_printed recorded i (first ∷ lists) zero sets b e h =
     let same : first ≡ sets = one first sets e in
     let shown : Includes (map (set_line i) first) (set_line i b) = includes_map (set_line i) first b (subst (λ (x : List SetValue). Includes x b) (sym same) h) in
     let placed : Includes (step_lines i (recorded i) first) (set_line i b) = includes_front (map (λ (d : Disc). disc_line i d.id d.p d.r) (recorded i) ++ map (set_line i) first) (count_line i (length first) ∷ []) (set_line i b)
-        (includes_back (map (λ (d : Disc). disc_line i d.id d.p d.r) (recorded i)) (map (set_line i) first) (set_line i b) shown) in
+    (includes_back (map (λ (d : Disc). disc_line i d.id d.p d.r) (recorded i)) (map (set_line i) first) (set_line i b) shown) in
     let all : Includes (lines_from recorded i (first ∷ lists)) (set_line i b) = includes_front (step_lines i (recorded i) first) (lines_from recorded (i + 1) lists) (set_line i b) placed in
     let q : i ≡ i + zero = omega arith in
     subst (λ (x : ℕ). Includes (lines_from recorded i (first ∷ lists)) (set_line x b)) q all
@@ -172,10 +172,10 @@ unfolding AreOther IsOther end_in
 traffic_other s c traffic t line i =
     let k : Includes (t.obstacles ++ map fixed_of s.fixed ++ polygon_lines (movers_in t.obstacles) t.polygons ++ flat_map (occ_lines s c) (movers_in t.obstacles)) line = subst (λ (l : List Line). Includes l line) t.lines_are i in
     both_other (t.obstacles ++ map fixed_of s.fixed ++ polygon_lines (movers_in t.obstacles) t.polygons) (flat_map (occ_lines s c) (movers_in t.obstacles))
-        (both_other (t.obstacles ++ map fixed_of s.fixed) (polygon_lines (movers_in t.obstacles) t.polygons)
-            (both_other t.obstacles (map fixed_of s.fixed) (λ l j. let (m, at, h) = from_second (IsObstacleLine s) s.movers t.obstacles l t.obstacles_are j in obstacle_other s m l h) (map_other fixed_of (λ f. refl) s.fixed))
-            (polygons_other (movers_in t.obstacles) t.polygons))
-        (occupied_other s c (movers_in t.obstacles)) line k
+    (both_other (t.obstacles ++ map fixed_of s.fixed) (polygon_lines (movers_in t.obstacles) t.polygons)
+    (both_other t.obstacles (map fixed_of s.fixed) (λ l j. let (m, at, h) = from_second (IsObstacleLine s) s.movers t.obstacles l t.obstacles_are j in obstacle_other s m l h) (map_other fixed_of (λ f. refl) s.fixed))
+    (polygons_other (movers_in t.obstacles) t.polygons))
+    (occupied_other s c (movers_in t.obstacles)) line k
 
 steps_other : (recorded : ℕ → List Disc) (i : ℕ) (lists : List (List SetValue)) → AreOther (lines_from recorded i lists)
 unfolding AreOther IsOther end_in
@@ -220,18 +220,18 @@ ego_covered s c problem pieces lists end recorded lines run velocities avoids pr
       printed = printed (ego_line (ego_of problem course)) (inl refl);
       line = record { problem = problem; chosen = run.chosen; id = refl; p = refl; a = refl; v = refl; w = refl; g = refl; b = velocities };
       held = λ states motion i state le got free. elim (held_or_struck course (λ j. length (pieces j)) (λ j. Hits (pieces j)) c.steps lists end run.lists_are avoids i states state le motion got) [
-        | inl (sets, g, (b, at, holds)) ↦ (
-          b,
-          printed (set_line i b) (inr (includes_front (lines_from recorded 0 lists) (last_line end ∷ []) (set_line i b)
-              (subst (λ (x : ℕ). Includes (lines_from recorded 0 lists) (set_line x b)) (let q : 0 + i ≡ i = omega arith in q) (set_printed recorded 0 lists i sets b g at)))),
-          holds,
-        )
+        | inl (sets, g, (b, at, holds)) ↦ record {
+          base = b;
+          printed = printed (set_line i b) (inr (includes_front (lines_from recorded 0 lists) (last_line end ∷ []) (set_line i b)
+              (subst (λ (x : ℕ). Includes (lines_from recorded 0 lists) (set_line x b)) (let q : 0 + i ≡ i = omega arith in q) (set_printed recorded 0 lists i sets b g at))));
+          holds = holds;
+        }
         | inr by ↦ absurd (free (struck i states le by))
       ];
       struck = λ i told states motion state got.
-        let same : Empty i ≡ end = ends (Empty i) told in
-        let are : AreStepLists course (λ j. length (pieces j)) (λ j. Hits (pieces j)) c.steps lists (Empty i) = subst (λ (x : End). AreStepLists course (λ j. length (pieces j)) (λ j. Hits (pieces j)) c.steps lists x) (sym same) run.lists_are in
-        struck i states (within i are) (all_struck course (λ j. length (pieces j)) (λ j. Hits (pieces j)) c.steps lists i are avoids states state motion got);
+          let same : Empty i ≡ end = ends (Empty i) told in
+          let are : AreStepLists course (λ j. length (pieces j)) (λ j. Hits (pieces j)) c.steps lists (Empty i) = subst (λ (x : End). AreStepLists course (λ j. length (pieces j)) (λ j. Hits (pieces j)) c.steps lists x) (sym same) run.lists_are in
+          struck i states (within i are) (all_struck course (λ j. length (pieces j)) (λ j. Hits (pieces j)) c.steps lists i are avoids states state motion got);
     }
 
 -- an empty end comes at a step of the run
@@ -248,10 +248,10 @@ module _ (course : Course) (count : ℕ → ℕ) (At : ℕ → ℕ → Pt → Ty
 -- ---- the two reports
 
 entered : (s : Scenario) (c : Command) (lines : List Line) (i : ℕ) (states : List State) → c.task ≡ Area → HasEntered s c lines i states → IsStruck s c lines i states
-entered s c lines i states e h = rw e h
+entered s c lines i states e h = subst (λ (task : Task). IsStruckIn task s c lines i states) (sym e) h
 
 collided : (s : Scenario) (c : Command) (lines : List Line) (i : ℕ) (states : List State) → c.task ≡ Replay → HasCollided s c i states → IsStruck s c lines i states
-collided s c lines i states e h = rw e h
+collided s c lines i states e h = subst (λ (task : Task). IsStruckIn task s c lines i states) (sym e) h
 
 pub area_covers : AreaCovers
 unfolding AreOther IsOther end_in
@@ -260,13 +260,13 @@ area_covers s c lines end r area some velocities avoids =
     let back : List Line = area_lines r.problem course (λ i. []) r.lists end in
     let front : List Line = ego_line (ego_of r.problem course) ∷ lines_from (λ i. []) 0 r.lists in
     let from_back : (line : Line) → Includes (area_lines r.problem (course_of s c r.problem) (λ i. []) r.lists end) line → Includes lines line = λ line i.
-        subst (λ (l : List Line). Includes l line) (sym r.lines_are) (inr (inr (includes_back r.traffic (area_lines r.problem (course_of s c r.problem) (λ i. []) r.lists end) line i))) in
+    subst (λ (l : List Line). Includes l line) (sym r.lines_are) (inr (inr (includes_back r.traffic (area_lines r.problem (course_of s c r.problem) (λ i. []) r.lists end) line i))) in
     let from_traffic : (line : Line) → Includes r.traffic line → Includes lines line = λ line i.
-        subst (λ (l : List Line). Includes l line) (sym r.lines_are) (inr (inr (includes_front r.traffic (area_lines r.problem (course_of s c r.problem) (λ i. []) r.lists end) line i))) in
+    subst (λ (l : List Line). Includes l line) (sym r.lines_are) (inr (inr (includes_front r.traffic (area_lines r.problem (course_of s c r.problem) (λ i. []) r.lists end) line i))) in
     ego_covered s c r.problem r.pieces r.lists end (λ i. []) lines r.run velocities avoids from_back
-        (λ e i. ends_area e (subst (λ (l : List Line). Includes l (last_line e)) r.lines_are i))
-        (λ i states le by. entered s c lines i states area (struck_is_entered s c (course_of s c r.problem) r.traffic lines r.pieces i states area some le refl r.traffic_is from_traffic r.run.pieces_are by))
-        (λ i are. ends_within (course_of s c r.problem) (λ j. length (r.pieces j)) (λ j. Hits (r.pieces j)) c.steps r.lists i are)
+    (λ e i. ends_area e (subst (λ (l : List Line). Includes l (last_line e)) r.lines_are i))
+    (λ i states le by. entered s c lines i states area (struck_is_entered s c (course_of s c r.problem) r.traffic lines r.pieces i states area some le refl r.traffic_is from_traffic r.run.pieces_are by))
+    (λ i are. ends_within (course_of s c r.problem) (λ j. length (r.pieces j)) (λ j. Hits (r.pieces j)) c.steps r.lists i are)
   where
     ends_area : (e : End) → Includes (head_line mode.Area ∷ time_line s.step c.steps ∷ r.traffic ++ area_lines r.problem (course_of s c r.problem) (λ i. []) r.lists end) (last_line e) → e ≡ end
     ends_area e (inl f) = absurd (let g : last_line e ≡ head_line mode.Area = f in cc)
@@ -281,11 +281,11 @@ pub replay_covers : ReplayCovers
 unfolding AreOther IsOther end_in
 replay_covers s c lines end r replay velocities avoids =
     let from_back : (line : Line) → Includes (area_lines r.problem (course_of s c r.problem) (discs s (ego_radius c)) r.lists end) line → Includes lines line = λ line i.
-        subst (λ (l : List Line). Includes l line) (sym r.lines_are) (inr (inr i)) in
+    subst (λ (l : List Line). Includes l line) (sym r.lines_are) (inr (inr i)) in
     ego_covered s c r.problem r.pieces r.lists end (discs s (ego_radius c)) lines r.run velocities avoids from_back
-        (λ e i. ends_replay e (subst (λ (l : List Line). Includes l (last_line e)) r.lines_are i))
-        (λ i states le by. collided s c lines i states replay (struck_is_collided s c (course_of s c r.problem) r.pieces i states replay le refl r.run.pieces_are by))
-        (λ i are. ends_within (course_of s c r.problem) (λ j. length (r.pieces j)) (λ j. Hits (r.pieces j)) c.steps r.lists i are)
+    (λ e i. ends_replay e (subst (λ (l : List Line). Includes l (last_line e)) r.lines_are i))
+    (λ i states le by. collided s c lines i states replay (struck_is_collided s c (course_of s c r.problem) r.pieces i states replay le refl r.run.pieces_are by))
+    (λ i are. ends_within (course_of s c r.problem) (λ j. length (r.pieces j)) (λ j. Hits (r.pieces j)) c.steps r.lists i are)
   where
     ends_replay : (e : End) → Includes (head_line mode.Replay ∷ time_line s.step c.steps ∷ area_lines r.problem (course_of s c r.problem) (discs s (ego_radius c)) r.lists end) (last_line e) → e ≡ end
     ends_replay e (inl f) = absurd (let g : last_line e ≡ head_line mode.Replay = f in cc)

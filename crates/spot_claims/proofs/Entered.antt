@@ -1,19 +1,15 @@
 -- A motion that is at a piece of the prediction has entered what is printed.
-use Rattle.std.proofs.Common.{◌≡◌, ◌∙◌, ◌⊎◌, inl, inr, ℕ, zero, suc, ◌+◌, ◌-◌, ◌*◌, ◌<◌, ◌≤◌, refl, sym, ap, subst, arith, List, [], ◌∷◌, ◌++◌, map, filter, length, Bool, true, false, cond, Option, Some, None}
-use Rattle.std.specs.Prelude.{◌↔◌, slice_get, nat_le, ◌==◌}
+use Rattle.std.proofs.Common.{◌≡◌, ◌∙◌, inl, inr, ℕ, zero, suc, ◌-◌, ◌*◌, ◌<◌, ◌≤◌, refl, sym, ap, subst, arith, List, [], ◌∷◌, ◌++◌, map, filter, Bool, true, false, cond, Option, Some, None}
+use Rattle.std.specs.Prelude.{slice_get, nat_le, ◌==◌}
 use Rattle.std.specs.List.{flat_map}
-use Rattle.std.proofs.lemmas.Int.{ints}
 use Rattle.std.proofs.lemmas.Bool.Decides.{nat_tests}
-use lib.IntN.{ℤ}
-use Rattle.spot_terms.specs.Cells.{Lane}
-use Rattle.spot_terms.specs.Hull.{InHull}
 use Rattle.spot_terms.specs.LanePolygons.{LanePolygon, AreLanePolygons}
 use Rattle.spot_terms.specs.Lists.{Includes, Pairwise, numbers_below}
 use Rattle.spot_terms.specs.OccupiedPieces.{Occupant, HasPolygons, IsOccupant, pieces_in, pieces_of, fixed_piece, AreOccupants, predicted_pieces, discs, recorded_pieces}
-use Rattle.spot_terms.specs.Participants.{starting, FollowsLanes}
-use Rattle.spot_terms.specs.Pieces.{Piece, octagon, cut_octagon, disc, InPiece}
+use Rattle.spot_terms.specs.Participants.{starting}
+use Rattle.spot_terms.specs.Pieces.{Piece, cut_octagon, disc, InPiece}
 use Rattle.spot_terms.specs.Reach.{InOctagon, interval_numbers, disc_numbers}
-use Rattle.spot_terms.specs.Report.{Line, mover_line, late_line, lane_line, occ_line}
+use Rattle.spot_terms.specs.Report.{Line, mover_line, occ_line}
 use Rattle.spot_terms.specs.declared.command.Command.{Command}
 use Rattle.spot_terms.specs.declared.lines.MoverLine.{MoverLine}
 use Rattle.spot_terms.specs.declared.plain.AccStart.{AccStart}
@@ -25,13 +21,14 @@ use Rattle.spot_terms.specs.declared.scenario.Scenario.{Scenario}
 use Rattle.spot_terms.proofs.ListLemmas.{includes_front, includes_back, includes_either, includes_map, includes_flat_map, includes_below}
 use Rattle.spot_terms.proofs.Members.{in_map, in_flat_map}
 use Rattle.spot_claims.specs.EgoClaims.{IsOccupied}
-use Rattle.spot_claims.specs.ParticipantClaims.{HoldsTick, InPrinted}
+use Rattle.spot_claims.specs.ParticipantClaims.{HoldsTick, InOccupancy}
 use Rattle.spot_claims.specs.Problems.{ego_radius}
 use Rattle.spot_claims.specs.ReportOf.{start_of, IsExactMover, IsObstacleLine, movers_in, ArePolygonsOf, polygon_line, polygon_lines, occ_lines, fixed_of, IsTraffic}
 use Rattle.spot_claims.specs.Entered.{StruckIsEntered, StruckIsCollided}
 use Rattle.spot_claims.proofs.OneReport.{area_pieces, replay_pieces}
 use Rattle.spot_terms.proofs.OneStart.{start_one, speed_one}
 use Rattle.spot_terms.proofs.OneLabel.{polygons_one}
+use Rattle.spot_claims.proofs.ExactStart.{exact_start}
 
 -- ---- lists
 
@@ -140,12 +137,13 @@ module _ (s : Scenario) (c : Command) (traffic lines : List Line) (tr : IsTraffi
   before_lanes line i = before_occupied line (includes_front standing lanes line i)
 
   of_fixed : (f : Fixed) (latest t : ℕ) (q : Pt) → Includes s.fixed f → InPiece (fixed_piece f) q → IsOccupied s c lines latest t q
-  of_fixed f latest t q i h = inl (
-    f.id,
-    disc_numbers (record { x = f.x; y = f.y }) f.enclosing,
-    before_lanes (fixed_of f) (includes_back tr.obstacles fixeds (fixed_of f) (includes_map fixed_of s.fixed f i)),
-    h,
-  )
+  of_fixed f latest t q i h = inl (record {
+    obstacle = f;
+    listed = i;
+    numbers = disc_numbers (record { x = f.x; y = f.y }) f.enclosing;
+    printed = before_lanes (fixed_of f) (includes_back tr.obstacles fixeds (fixed_of f) (includes_map fixed_of s.fixed f i));
+    inside = h;
+  })
 
   occ_of : MoverLine → ℕ → Line
   occ_of v j = occ_line v.id j (interval_numbers (start_of v) s.step j)
@@ -167,21 +165,19 @@ module _ (s : Scenario) (c : Command) (traffic lines : List Line) (tr : IsTraffi
 
   in_print : (v : MoverLine) (m : Mover) (o : Occupant) (j : ℕ) (q : Pt) (piece : Piece) (ps : Option (List LanePolygon)) → IsExactMover s m v → Includes (movers_in tr.obstacles) v → j < c.steps
       → (h : IsOccupant s.lanelets.entries s.step c.steps m o) → HasPolygons s.lanelets.entries s.step c.steps m o.start h.speed ps
-      → Includes (pieces_in (interval_numbers o.start s.step j) j ps) piece → InPiece piece q → InPrinted lines v j q
+      → Includes (pieces_in (interval_numbers o.start s.step j) j ps) piece → InPiece piece q → InOccupancy lines v j (interval_numbers (start_of v) s.step j) q
   unfolding occ_of
   in_print v m o j q piece None a i less h hp (inl e) inside =
-      let start : start_of v ≡ o.start = start_one m (start_of v) o.start v.s h.speed a.start h.start in
+      let start : start_of v ≡ o.start = start_one m (start_of v) o.start v.s h.speed (exact_start s m v a) h.start in
       let oct : InOctagon (interval_numbers o.start s.step j) q = subst (λ (z : Piece). InPiece z q) e inside in
       record {
-        numbers = interval_numbers (start_of v) s.step j;
-        octagon = occ_printed v j less i;
-        in_octagon = subst (λ (z : AccStart). InOctagon (interval_numbers z s.step j) q) (sym start) oct;
-        in_lane = λ l. absurd (hp (a.lane.0 l));
+        octagon = subst (λ (z : AccStart). InOctagon (interval_numbers z s.step j) q) (sym start) oct;
+        lane = λ l. absurd (hp (a.lane.0 l));
       }
   in_print v m o j q piece None a i less h hp (inr k) inside = absurd k
   in_print v m o j q piece (Some ps) a i less h hp k inside =
-      let start : start_of v ≡ o.start = start_one m (start_of v) o.start v.s h.speed a.start h.start in
-      let speed : v.s ≡ h.speed = speed_one m (start_of v) o.start v.s h.speed a.start h.start in
+      let start : start_of v ≡ o.start = start_one m (start_of v) o.start v.s h.speed (exact_start s m v a) h.start in
+      let speed : v.s ≡ h.speed = speed_one m (start_of v) o.start v.s h.speed (exact_start s m v a) h.start in
       let (x, at, e) = in_map (λ (x : LanePolygon). cut_octagon (interval_numbers o.start s.step j) x.corners) (filter (λ (x : LanePolygon). nat_le x.first j) ps) piece k in
       let (listed, early) = passes (λ (x : LanePolygon). nat_le x.first j) ps x at in
       let both : InPiece (cut_octagon (interval_numbers o.start s.step j) x.corners) q = subst (λ (z : Piece). InPiece z q) e inside in
@@ -190,19 +186,37 @@ module _ (s : Scenario) (c : Command) (traffic lines : List Line) (tr : IsTraffi
       let moved : AreLanePolygons s.lanelets.entries o.start v.s s.step c.steps p = subst (λ (z : AccStart). AreLanePolygons s.lanelets.entries z v.s s.step c.steps p) start mine in
       let same : p ≡ ps = polygons_one s.lanelets.entries o.start h.speed s.step c.steps p ps (subst (λ (z : ℕ). AreLanePolygons s.lanelets.entries o.start z s.step c.steps p) speed moved) hp.1 in
       record {
-        numbers = interval_numbers (start_of v) s.step j;
-        octagon = occ_printed v j less i;
-        in_octagon = subst (λ (z : AccStart). InOctagon (interval_numbers z s.step j) q) (sym start) both.0;
-        in_lane = λ l. (x.cell, x.first, x.corners, lane_printed (polygon_line v.id x) (shown x (subst (λ (z : List LanePolygon). Includes z x) (sym same) listed)), at_most x.first j early, both.1);
+        octagon = subst (λ (z : AccStart). InOctagon (interval_numbers z s.step j) q) (sym start) both.0;
+        lane = λ l. record {
+          cell = x.cell;
+          first = x.first;
+          corners = x.corners;
+          printed = lane_printed (polygon_line v.id x) (shown x (subst (λ (z : List LanePolygon). Includes z x) (sym same) listed));
+          early = at_most x.first j early;
+          inside = both.1;
+        };
       }
 
   of_mover : (m : Mover) (o : Occupant) (j latest t : ℕ) (q : Pt) (piece : Piece) → Includes (starting s.movers) m → IsOccupant s.lanelets.entries s.step c.steps m o → j ≤ latest → HoldsTick s.step c.steps j t
       → Includes (pieces_of s.step j o) piece → InPiece piece q → IsOccupied s c lines latest t q
-  unfolding Found
+  unfolding Found occ_of
   of_mover m o j latest t q piece i h le holds k inside =
       let (among, at_start) = passes (λ (x : Mover). x.time == 0) s.movers m i in
       let (v, a, shown, listed) = found s c s.movers tr.obstacles m tr.obstacles_are among (zero_time m.time at_start) in
-      inr (v, j, mover_printed v shown, le, holds, in_print v m o j q piece o.polygons a listed holds.printed h h.polygons k inside)
+      inr (record {
+        mover = m;
+        listed = among;
+        starts = zero_time m.time at_start;
+        line = v;
+        line_is = a.line_is;
+        printed = mover_printed v shown;
+        interval = j;
+        early = le;
+        holds = holds;
+        numbers = interval_numbers (start_of v) s.step j;
+        octagon = occ_printed v j holds.printed listed;
+        inside = in_print v m o j q piece o.polygons a listed holds.printed h h.polygons k inside;
+      })
 
   at_piece : (occupants : List Occupant) (i latest t : ℕ) (q : Pt) (piece : Piece) → AreOccupants s c.steps occupants → i - 1 ≤ latest → HoldsTick s.step c.steps (i - 1) t
       → Includes (predicted_pieces s occupants i) piece → InPiece piece q → IsOccupied s c lines latest t q
@@ -226,13 +240,13 @@ pub struck_is_entered : StruckIsEntered
 struck_is_entered s c course traffic lines pieces i states area some le ticks tr all are (j, p, state, at, got, less, (piece, found, inside)) =
     let (occupants, known, same) = area_pieces s c pieces area are in
     let listed : Includes (pieces j) piece = at_included (pieces j) p piece found in
-    let within : Includes (predicted_pieces s occupants j) piece = subst (λ (z : List Piece). Includes z piece) (same j (omega (arith, at, le))) listed in (
-      j * s.step,
-      state,
-      mul_le j i s.step at,
-      subst (λ z. slice_get states (j * z) ≡ Some state) ticks got,
-      at_piece s c traffic lines tr all occupants j (i - 1) (j * s.step) state.p piece known (omega (arith, at)) (holds_tick s.step c.steps j some (omega (arith, at, le))) within inside,
-    )
+    let within : Includes (predicted_pieces s occupants j) piece = subst (λ (z : List Piece). Includes z piece) (same j (omega (arith, at, le))) listed in record {
+      tick = j * s.step;
+      state = state;
+      early = mul_le j i s.step at;
+      at = subst (λ z. slice_get states (j * z) ≡ Some state) ticks got;
+      occupied = at_piece s c traffic lines tr all occupants j (i - 1) (j * s.step) state.p piece known (omega (arith, at)) (holds_tick s.step c.steps j some (omega (arith, at, le))) within inside;
+    }
   where
     mul_le : (a b k : ℕ) → a ≤ b → a * k ≤ b * k
     mul_le a b k h = grind arith
@@ -242,4 +256,12 @@ struck_is_collided s c course pieces i states replay le ticks are (j, p, state, 
     let listed : Includes (pieces j) piece = at_included (pieces j) p piece found in
     let within : Includes (recorded_pieces s (ego_radius c) j) piece = subst (λ (z : List Piece). Includes z piece) (replay_pieces s c pieces replay are j (omega (arith, at, le))) listed in
     let (d, k, e) = in_map (λ (d : Disc). disc d.p d.r) (discs s (ego_radius c) j) piece within in
-    (j, state, d, at, subst (λ z. slice_get states (j * z) ≡ Some state) ticks got, k, subst (λ (z : Piece). InPiece z state.p) e inside)
+    record {
+      step = j;
+      state = state;
+      early = at;
+      at = subst (λ z. slice_get states (j * z) ≡ Some state) ticks got;
+      disc = d;
+      recorded = k;
+      inside = subst (λ (z : Piece). InPiece z state.p) e inside;
+    }

@@ -1,5 +1,5 @@
 -- There is one report of a command and a scenario at most.
-use Rattle.std.proofs.Common.{◌≡◌, ◌∙◌, ℕ, ◌≤◌, List, [], ◌∷◌, ◌++◌, length, Option, Some, refl, sym, ap, subst}
+use Rattle.std.proofs.Common.{◌≡◌, ◌∙◌, ℕ, ◌≤◌, List, length, sym, ap, subst}
 use Rattle.spot_terms.specs.BaseSets.{SetValue}
 use Rattle.spot_terms.specs.OccupiedPieces.{Occupant, IsOccupant, AreOccupants, predicted_pieces, recorded_pieces}
 use Rattle.spot_terms.specs.Participants.{starting}
@@ -7,8 +7,7 @@ use Rattle.spot_terms.specs.Pieces.{Piece, Hits}
 use Rattle.spot_terms.specs.Report.{Line}
 use Rattle.spot_terms.specs.StepLists.{AreStepLists}
 use Rattle.spot_terms.specs.declared.command.Command.{Command}
-use Rattle.spot_terms.specs.declared.command.Task.{Task}
-use Rattle.spot_terms.specs.declared.command.Task.TheVariants.{Predict, Area, Replay, Draw, Sample}
+use Rattle.spot_terms.specs.declared.command.Task.TheVariants.{Area, Replay}
 use Rattle.spot_terms.specs.declared.lines.End.{End}
 use Rattle.spot_terms.specs.declared.scenario.Problem.{Problem}
 use Rattle.spot_terms.specs.declared.scenario.Scenario.{Scenario}

@@ -1,2 +1,3 @@
 pub mod StatusLines
 pub mod Endings
+pub mod Programs

@@ -1,5 +1,5 @@
 -- The line on standard error for each status.
-use Rattle.std.specs.Prelude.{ℕ, List, [], ◌++◌, codes, decimal}
+use Rattle.std.specs.Prelude.{ℕ, List, [], ◌∷◌, ◌++◌, codes, decimal}
 use Rattle.spot_terms.specs.declared.status.Code.{Code}
 use Rattle.spot_terms.specs.declared.status.Code.TheVariants.{NotJson, NotTree, Root, Version, Missing, BadNumber, OutOfRange, StepSize, BadId, DuplicateId, BoundCount, UncertainPosition, UncertainValue, TooManyParticipants, NoProblem, LateProblem, EgoTooFast, NotYet}
 use Rattle.spot_terms.specs.declared.status.Which.{Which}
@@ -46,3 +46,9 @@ status_line (Limit which step count) =
 status_line ReadFault = codes "spot: read fault"
 status_line WriteFault = codes "spot: write fault"
 status_line Memory = codes "spot: out of memory"
+
+-- the line with its line feed, or nothing
+abbrev pub said : Status → List ℕ
+said Open = []
+said (Empty step) = []
+said status = status_line status ++ 10 ∷ []

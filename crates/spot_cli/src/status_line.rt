@@ -1,52 +1,44 @@
 //! The line on standard error.
 
-ghost use Rattle.std.specs.Prelude.{◌≡◌, ◌↔◌, [], Some, IsTrue};
-ghost use Rattle.spot_cli.specs.StatusLines.{code_word as word_of_code, which_word as word_of_limit, status_line};
+ghost use Rattle.std.specs.Prelude.{◌≡◌, ◌≤◌, length};
+ghost use Rattle.spot_cli.specs.StatusLines.{code_word as word_of_code, which_word as word_of_limit, said};
 
 use spot_terms::{Code, Status, Which};
-use std::fmt;
+use text_report::LineBuffer;
 
-/// What is said on standard error of how a run ended, without the line feed. Nothing is said where the whole report was
-/// written.
-#[derive(Clone, Copy)]
-pub struct StatusLine {
-    pub status: Status,
-}
-
-impl StatusLine {
-    /// Whether nothing is said.
-    pub fn is_empty(&self) -> bool
-        ensures { IsTrue result ↔ (status_line self.now.status ≡ []) }
-    {
-        matches!(self.status, Status::Open | Status::Empty(_))
-    }
-}
-
-impl fmt::Display for StatusLine {
-    ghost output = { λ line. Some (status_line line.status) };
-
-    fn fmt<W: fmt::Write>(&self, f: &mut fmt::Formatter<W>) -> fmt::Result {
-        match self.status {
-            Status::Open | Status::Empty(_) => Ok(()),
-            Status::BadWords => f.write_str("spot: bad command line"),
-            Status::Refused(code, place) => {
-                let word = code_word(code);
-                write!(f, "spot: refused {word} at {place}")
-            }
-            Status::Limit(which, step, count) => {
-                let word = which_word(which);
-                write!(f, "spot: limit {word} step {step} count {count}")
-            }
-            Status::ReadFault => f.write_str("spot: read fault"),
-            Status::WriteFault => f.write_str("spot: write fault"),
-            Status::Memory => f.write_str("spot: out of memory"),
+/// Makes what is said of how a run ended: a line, or nothing where the whole output was written.
+pub fn put_status(line: &mut LineBuffer, status: Status)
+    ensures { line.new ≡ said status }
+{
+    match status {
+        Status::Open | Status::Empty(_) => line.start(""),
+        Status::BadWords => line.start("spot: bad command line\n"),
+        Status::Refused(code, place) => {
+            line.start("spot: refused ");
+            line.text(code_word(code));
+            line.text(" at ");
+            line.digits(place);
+            line.end();
         }
+        Status::Limit(which, step, count) => {
+            line.start("spot: limit ");
+            line.text(which_word(which));
+            line.text(" step ");
+            line.digits(step);
+            line.text(" count ");
+            line.digits(count);
+            line.end();
+        }
+        Status::ReadFault => line.start("spot: read fault\n"),
+        Status::WriteFault => line.start("spot: write fault\n"),
+        Status::Memory => line.start("spot: out of memory\n"),
     }
 }
 
 /// The word for why an input is refused.
 pub fn code_word(code: Code) -> &'static str
-    ensures { result.now ≡ word_of_code code }
+    ensures word { result.now ≡ word_of_code code }
+    ensures short { length result.now ≤ 19 }
 {
     match code {
         Code::NotJson => "NotJson",
@@ -72,7 +64,8 @@ pub fn code_word(code: Code) -> &'static str
 
 /// The word for a limit.
 pub fn which_word(which: Which) -> &'static str
-    ensures { result.now ≡ word_of_limit which }
+    ensures word { result.now ≡ word_of_limit which }
+    ensures short { length result.now ≤ 19 }
 {
     match which {
         Which::TooLong => "TooLong",

@@ -27,7 +27,7 @@ pub enum NumberFault {
     TooLarge,
 }
 
-/// How many bytes a number may have.
+// How many bytes a number may have.
 const MOST_BYTES: usize = 64;
 
 /// Reads a decimal to the nearest whole number of units `10^-places`; of two that are equally near it
@@ -56,7 +56,7 @@ pub fn read_decimal(text: &str, places: u32) -> Result<i128, NumberFault>
     Ok(with_sign(decimal.minus, size))
 }
 
-/// The number of this size, negative after a minus.
+// The number of this size, negative after a minus.
 fn with_sign(minus: bool, size: u64) -> i128
     ensures { result ≡ signed minus size }
 {

@@ -1,4 +1,5 @@
 //! The parts of a decimal text.
+
 ghost use Rattle.std.specs.Prelude.{◌≡◌, ℕ, ◌+◌, ◌<◌, ◌≤◌, ◌++◌, None, Some, length, min, option_map, IfSome, IsTrue, MatchOption};
 ghost use Rattle.std.specs.List.{position};
 ghost use Rattle.std.specs.Option.{option_copied, ForSome};
@@ -8,17 +9,17 @@ ghost use Rattle.spot_decimal.specs.Written.{head_to, tail_from, power_part, IsW
 
 use crate::value::value_after;
 
-/// Exponents from here on are taken for one another: of at most 64 digits they leave nothing, or too much.
+// Exponents from here on are taken for one another: of at most 64 digits they leave nothing, or too much.
 const MOST_EXPONENT: u64 = 1000;
 
-/// What stands behind a sign.
+// What stands behind a sign.
 #[derive(Clone, Copy)]
 struct Signed<'a> {
     minus: bool,
     rest: &'a [u8],
 }
 
-/// What stands before a mark, and what stands behind it if there is one.
+// What stands before a mark, and what stands behind it if there is one.
 #[derive(Clone, Copy)]
 struct Cut<'a> {
     head: &'a [u8],
@@ -33,7 +34,7 @@ pub struct Digits<'a> {
 }
 
 /// An exponent, its size at most `MOST_EXPONENT`.
-#[derive(Clone, Copy)]
+#[derive(Clone, Copy, Debug, PartialEq, Eq)]
 pub struct Exponent {
     pub minus: bool,
     pub size: u64,
@@ -47,7 +48,7 @@ pub struct Decimal<'a> {
     pub exponent: Exponent,
 }
 
-/// Takes off a sign.
+// Takes off a sign.
 fn take_sign(text: &[u8]) -> Signed<'_>
     ensures minus { result.minus ≡ (signed_part text.now).0 }
     ensures rest { result.rest.now ≡ (signed_part text.now).1 }
@@ -62,7 +63,7 @@ fn take_sign(text: &[u8]) -> Signed<'_>
     }
 }
 
-/// Cuts a text at the place of a mark, and takes the mark away.
+// Cuts a text at the place of a mark, and takes the mark away.
 fn cut_at(text: &[u8], place: Option<usize>) -> Cut<'_>
     requires { ForSome place (λ i. i < length text.now) }
     ensures head { result.head.now ≡ head_to place text.now }
@@ -80,7 +81,7 @@ fn cut_at(text: &[u8], place: Option<usize>) -> Cut<'_>
     }
 }
 
-/// Where the first point is.
+// Where the first point is.
 fn point_place(text: &[u8]) -> Option<usize>
     ensures value { result ≡ position is_point text.now }
     ensures within { ForSome result (λ i. i < length text.now) }
@@ -88,7 +89,7 @@ fn point_place(text: &[u8]) -> Option<usize>
     text.iter().position(|b| *b == b'.')
 }
 
-/// Where the first `e` or `E` is.
+// Where the first `e` or `E` is.
 fn exponent_place(text: &[u8]) -> Option<usize>
     ensures value { result ≡ position is_exponent text.now }
     ensures within { ForSome result (λ i. i < length text.now) }
@@ -96,7 +97,7 @@ fn exponent_place(text: &[u8]) -> Option<usize>
     text.iter().position(|b| *b == b'e' || *b == b'E')
 }
 
-/// Cuts a text at its first point.
+// Cuts a text at its first point.
 fn cut_at_point(text: &[u8]) -> Cut<'_>
     ensures head { result.head.now ≡ head_part is_point text.now }
     ensures tail { option_copied result.tail ≡ tail_part is_point text.now }
@@ -104,7 +105,7 @@ fn cut_at_point(text: &[u8]) -> Cut<'_>
     cut_at(text, point_place(text))
 }
 
-/// Cuts a text at its first `e` or `E`.
+// Cuts a text at its first `e` or `E`.
 fn cut_at_exponent(text: &[u8]) -> Cut<'_>
     ensures head { result.head.now ≡ head_part is_exponent text.now }
     ensures tail { option_copied result.tail ≡ tail_part is_exponent text.now }
@@ -112,14 +113,14 @@ fn cut_at_exponent(text: &[u8]) -> Cut<'_>
     cut_at(text, exponent_place(text))
 }
 
-/// Whether each byte is a digit.
+// Whether each byte is a digit.
 fn all_digits(text: &[u8]) -> bool
     ensures { result ≡ are_digits text.now }
 {
     text.iter().all(|b| b.is_ascii_digit())
 }
 
-/// The digits of a number without sign and exponent: at least one, and at most one point.
+// The digits of a number without sign and exponent: at least one, and at most one point.
 fn read_digits(text: &[u8]) -> Option<Digits<'_>>
     ensures value { digits_part text.now ≡ option_map (λ d. (length d.part.now, digits_value 10 (d.whole.now ++ d.part.now))) result }
     ensures digits { IfSome result (λ d. IsTrue (are_digits d.whole.now) × IsTrue (are_digits d.part.now)) }
@@ -137,7 +138,7 @@ fn read_digits(text: &[u8]) -> Option<Digits<'_>>
     }
 }
 
-/// The number that the digits write, or `MOST_EXPONENT` where that is less.
+// The number that the digits write, or `MOST_EXPONENT` where that is less.
 fn capped_value(digits: &[u8]) -> u64
     requires { IsTrue (are_digits digits.now) }
     ensures { result ≡ min (digits_value 10 digits.now) 1000 }
@@ -147,7 +148,7 @@ fn capped_value(digits: &[u8]) -> u64
         .min(MOST_EXPONENT)
 }
 
-/// The exponent behind its `e`: an optional sign and at least one digit.
+// The exponent behind its `e`: an optional sign and at least one digit.
 fn read_exponent(text: &[u8]) -> Option<Exponent>
     ensures { MatchOption result (exponent_part text.now ≡ None) (λ x. IsPowerWritten (Some text.now) x.minus x.size) }
 {
@@ -161,7 +162,7 @@ fn read_exponent(text: &[u8]) -> Option<Exponent>
     })
 }
 
-/// The exponent of a number: 0 where there is none.
+// The exponent of a number: 0 where there is none.
 fn read_power(tail: Option<&[u8]>) -> Option<Exponent>
     ensures { MatchOption result (power_part (option_copied tail.entry) ≡ None) (λ x. IsPowerWritten (option_copied tail.entry) x.minus x.size) }
 {

@@ -1,4 +1,5 @@
 //! The values of digits, and the rounded size of a decimal.
+
 ghost use Rattle.std.specs.Prelude.{◌≡◌, ℕ, ◌+◌, ◌-◌, ◌*◌, ◌^◌, ◌<◌, ◌≤◌, ◌++◌, length, min, take, IfSome, IfNone, IsTrue};
 ghost use Rattle.std.specs.Str.Parse.{digits_value_after};
 ghost use Rattle.spot_terms.specs.Decimal.{are_digits};
@@ -6,7 +7,7 @@ ghost use Rattle.spot_decimal.specs.Written.{front, kept, IsNearestTo};
 
 use crate::parts::{Decimal, Digits};
 
-/// The largest size of a reading.
+// The largest size of a reading.
 const MOST: u64 = 1_000_000_000_000_000_000;
 
 /// The number that the digits write behind those of `start`, where it is below `10 * MOST + 10`.
@@ -26,7 +27,7 @@ pub fn value_after(start: u64, digits: &[u8]) -> Option<u64>
     Some(value)
 }
 
-/// The number with this many zeros behind it, where it is below `10 * MOST + 10`.
+// The number with this many zeros behind it, where it is below `10 * MOST + 10`.
 fn with_zeros(start: u64, zeros: usize) -> Option<u64>
     requires { start < 10 ^ 19 + 10 }
     ensures some { IfSome result (λ n. (n ≡ start * 10 ^ zeros) × (n < 10 ^ 19 + 10)) }
@@ -42,15 +43,15 @@ fn with_zeros(start: u64, zeros: usize) -> Option<u64>
     Some(value)
 }
 
-/// The first digits, or all where there are fewer.
+// The first digits, or all where there are fewer.
 fn first_digits(digits: &[u8], most: usize) -> &[u8]
     ensures { result.now ≡ take most digits.now }
 {
     &digits[..most.min(digits.len())]
 }
 
-/// The value of the first `places` digits, with zeros behind the last, where it is below
-/// `10 * MOST + 10`.
+// The value of the first `places` digits, with zeros behind the last, where it is below
+// `10 * MOST + 10`.
 fn front_value(digits: &Digits<'_>, places: usize) -> Option<u64>
     requires whole { IsTrue (are_digits digits.now.whole.now) }
     requires part { IsTrue (are_digits digits.now.part.now) }
@@ -63,8 +64,8 @@ fn front_value(digits: &Digits<'_>, places: usize) -> Option<u64>
     with_zeros(value, behind.saturating_sub(digits.part.len()))
 }
 
-/// How many digits stand before the point of a decimal that is counted in tenths of a unit
-/// `10^-places`.
+// How many digits stand before the point of a decimal that is counted in tenths of a unit
+// `10^-places`.
 fn places_kept(decimal: &Decimal<'_>, places: u32) -> usize
     requires places { places ≤ 6 }
     requires short { length decimal.now.digits.whole.now ≤ 64 }

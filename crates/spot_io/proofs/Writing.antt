@@ -1,8 +1,8 @@
 -- Texts that are written one after another.
-use Rattle.std.proofs.Common.{◌≡◌, ◌∙◌, ℕ, ◌+◌, ◌≤◌, List, [], ◌++◌, length, Option, Result, Ok, Err, refl, sym, ap, subst, arith, append_assoc, length-append, add-zero}
+use Rattle.std.proofs.Common.{◌≡◌, ◌∙◌, ℕ, ◌+◌, ◌≤◌, List, [], ◌++◌, length, Option, Result, Ok, Err, refl, sym, ap, subst, arith, append_assoc, length-append}
 use Rattle.std.specs.Io.KnownBytes.{Appends}
 use Rattle.std.specs.Result.{IsErr}
-use Rattle.spot_terms.specs.Causes.{HasCause, Rose, AppendsFront}
+use Rattle.spot_terms.specs.Causes.{HasCause, AppendsFront}
 use Rattle.spot_io.specs.declared.traits.Sink.{Ghosts as Sink}
 use Rattle.spot_io.specs.Writes.{WritesText}
 use Rattle.spot_io.proofs.Moves.{appends_none, appends_more}

@@ -10,7 +10,7 @@ mod transfers;
 pub use memory::{MemSink, MemSource, mem_sink, mem_source};
 pub use never::{NeverSink, NeverSource, never_sink, never_source};
 pub use outside::{StdSink, StdSource};
-pub use traits::{Sink, SinkFault, Source, SourceFault};
+pub use traits::{Buffered, Sink, SinkFault, Source, SourceFault};
 pub use transfers::{ReadEnd, read_all, write_all};
 
 #[cfg(test)]

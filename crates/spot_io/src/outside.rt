@@ -1,11 +1,8 @@
 //! The edge: a reader and a writer of the standard library as a source and a sink.
 
-ghost use Rattle.std.specs.Prelude.{◌≡◌, [], OnOk};
-ghost use Rattle.std.specs.Io.Buffered.{writer_buffer, writer_contents};
-ghost use Rattle.std.specs.Io.KnownBytes.{Keeps};
-ghost use Rattle.spot_terms.specs.Causes.{HasCause};
+ghost use Rattle.std.specs.Io.Buffered.{writer_buffer};
 
-use crate::{Sink, SinkFault, Source, SourceFault};
+use crate::{Buffered, Sink, SinkFault, Source, SourceFault};
 use std::io::{BufWriter, Read, Write};
 
 /// A source over a reader, which counts each error of the reader as a fault, and tells what the reader tells.
@@ -63,14 +60,10 @@ impl<W: Write> Sink for StdSink<W> {
     ghost fewer = { λ _ _ _ _ _. tt };
 }
 
-impl<W: Write + Drop> StdSink<BufWriter<W>> {
-    /// Sends on what is left in the buffer, and counts a failure as a fault: `SinkFault` comes only where the count rose in
-    /// this call, and else the count is as before.
-    pub fn flush(&mut self) -> Result<(), SinkFault>
-        ensures emptied { OnOk result (writer_buffer self.new.inner ≡ []) }
-        ensures kept { Keeps (writer_contents W.contents self.old.inner) (writer_contents W.contents self.new.inner) }
-        ensures cause { HasCause self.old.count self.new.count result }
-    {
+impl<W: Write + Drop> Buffered for StdSink<BufWriter<W>> {
+    ghost kept_back = { λ s. writer_buffer s.inner };
+
+    fn flush(&mut self) -> Result<(), SinkFault> {
         match self.inner.flush() {
             Ok(()) => Ok(()),
             Err(_) => {

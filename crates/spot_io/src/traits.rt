@@ -1,7 +1,7 @@
 //! What a source and a sink mean.
-ghost use Rattle.std.specs.Prelude.{◌≡◌, ℕ, ◌+◌, ◌≤◌, List, Option, length, IfOk, OnErr};
+ghost use Rattle.std.specs.Prelude.{◌≡◌, ℕ, ◌+◌, ◌≤◌, List, [], Option, length, IfOk, OnOk, OnErr};
 ghost use Rattle.std.specs.Io.{ReadsAtMost, WritesAtMost};
-ghost use Rattle.std.specs.Io.KnownBytes.{ReadConsumes, WriteAppends};
+ghost use Rattle.std.specs.Io.KnownBytes.{Keeps, ReadConsumes, WriteAppends};
 ghost use Rattle.spot_terms.specs.Causes.{HasCause};
 
 /// A source couldn't read. It moved nothing, and its count of faults has risen.
@@ -53,4 +53,17 @@ pub trait Sink {
 
     /// A sink that can take some bytes can take fewer.
     ghost fewer: { (sink : Self) (few many : ℕ) → few ≤ many → takes sink many → takes sink few };
+}
+
+/// A sink that may keep back what it took.
+pub trait Buffered: Sink {
+    /// The bytes that were taken and not sent on.
+    ghost kept_back: { Self → List ℕ };
+
+    /// Sends on what was kept back; what the sink tells stays. Answers `SinkFault` only where the count rose in this call;
+    /// else the count is as before.
+    fn flush(&mut self) -> Result<(), SinkFault>
+        ensures sent { OnOk result (kept_back self.new ≡ []) }
+        ensures told { Keeps (Self.written self.old) (Self.written self.new) }
+        ensures cause { HasCause (Self.faults self.old) (Self.faults self.new) result };
 }

@@ -3,6 +3,7 @@ use Rattle.std.proofs.Common.{◌≡◌, ◌∙◌, Some, inl, inr, ℕ, zero, s
 use Rattle.std.specs.List.{flat_map}
 use Rattle.std.specs.Prelude.{slice_get}
 use Rattle.std.proofs.lemmas.Bool.Decides.{nat_tests}
+use Rattle.spot_terms.specs.Ids.{HaveUniqueIds}
 use Rattle.spot_terms.specs.Lists.{Includes, Pairwise, numbers_from}
 use Rattle.spot_terms.specs.Cells.{Lane}
 use Rattle.spot_terms.specs.Bodies.{InDisc}
@@ -24,11 +25,12 @@ use Rattle.convex_poly.specs.declared.oct_numbers.OctNumbers.{OctNumbers}
 use Rattle.round_out.proofs.Discs.{disc_in_octagon}
 use Rattle.acc_occupancy.proofs.Bodies.{holds_bodies}
 use Rattle.lane_occupancy.specs.Polygons.{polygon_of}
-use Rattle.spot_claims.specs.Headline.{pt, IsMoverLine, IsAdmissible, IsCovered, InPrintedLane, HoldsTick, CoversParticipants}
+use Rattle.spot_claims.specs.ParticipantClaims.{pt, IsMoverLine, IsAdmissible, InPrintedLane, HoldsTick, IsCovered, CoversParticipants}
 use Rattle.participants.specs.declared.participant.Participant.{Participant}
-use Rattle.participants.specs.Predictions.{IsParticipant, HoldsMotions, IsFixedOctagon, Occupancies}
+use Rattle.participants.specs.Predictions.{IsParticipant, HoldsMotions, IsFixedOctagon, Occupancies, IsPrediction}
 use Rattle.spot_run.specs.Writes.{IsPredicted}
 use Rattle.spot_run.specs.Lines.{line_of, obstacle_lines, octagon_line, octagon_lines, occupancy_lines, polygon_line, lane_lines, traffic_lines, prediction_lines}
+use Rattle.spot_run.proofs.Alone.{mover_alone, octagon_alone, fixed_alone}
 
 at_zero : (n : ℕ) → n ≡ 0 → (n == 0) ≡ true
 at_zero n h = grind (arith, nat_tests)
@@ -91,7 +93,7 @@ pub same_pt : (p : Pt) (x y : ℤ) → p.x ≡ x → p.y ≡ y → p ≡ pt x y
 same_pt p x y e f = let same : ◌≡◌ {A = Pt} (record { x = p.x; y = p.y }) (record { x = x; y = y }) = simp (e, f) in same
 
 -- the printed line of a participant is that of its obstacle
-is_mover_line : (lanes : List Lane) (k steps : ℕ) (m : Mover) (p : Participant) → IsMoverInRange m → IsParticipant lanes k steps m p → IsMoverLine m (line_of p)
+pub is_mover_line : (lanes : List Lane) (k steps : ℕ) (m : Mover) (p : Participant) → IsMoverInRange m → IsParticipant lanes k steps m p → IsMoverLine m (line_of p)
 is_mover_line lanes k steps m p range is = record {
   id = is.id;
   p = same_pt p.start.p m.x m.y is.start.x is.start.y;
@@ -110,44 +112,51 @@ in_lane : (s : Scenario) (c : Command) (o : Occupancies) (m : Mover) (p : Partic
     → p.lane ≡ true → InPrintedLane (prediction_lines s.step c.steps s.movers o) p.id interval q
 in_lane s c o m p is i motions states admissible t state at interval holds q disc lane =
     let (x, listed, early, inside) = motions lane states t interval state q (admissible.1 (is.lane.0 lane)) at holds.high holds.printed disc in
-    let (y, j, same) = in_map polygon_of p.polys x listed in (
-      x.cell,
-      x.first,
-      x.corners,
-      polygon_stands s.step c.steps s.movers o _
-          (includes_flat_map lane_lines o.participants p _ i (subst (λ (z : LanePolygon). Includes (lane_lines p) (lane_line p.id z.cell z.first z.corners)) (sym same) (includes_map (polygon_line p.id) p.polys y j))),
-      early,
-      inside,
-    )
+    let (y, j, same) = in_map polygon_of p.polys x listed in record {
+      cell = x.cell;
+      first = x.first;
+      corners = x.corners;
+      printed = polygon_stands s.step c.steps s.movers o _
+          (includes_flat_map lane_lines o.participants p _ i (subst (λ (z : LanePolygon). Includes (lane_lines p) (lane_line p.id z.cell z.first z.corners)) (sym same) (includes_map (polygon_line p.id) p.polys y j)));
+      early = early;
+      inside = inside;
+    }
 
-covered : (s : Scenario) (c : Command) (o : Occupancies) (m : Mover) (p : Participant) → IsParticipant s.lanelets.entries s.step c.steps m p → Includes o.participants p → HoldsMotions s.lanelets.entries s.step c.steps p
-    → IsCovered s c (prediction_lines s.step c.steps s.movers o) m (line_of p)
-covered s c o m p is i motions states admissible t state at interval holds q disc = record {
+covered : (s : Scenario) (c : Command) (o : Occupancies) (m : Mover) (p : Participant) (interval : ℕ) → IsPrediction s c.steps o → HaveUniqueIds s → IsParticipant s.lanelets.entries s.step c.steps m p → Includes o.participants p → HoldsMotions s.lanelets.entries s.step c.steps p
+    → interval < c.steps → IsCovered s c (prediction_lines s.step c.steps s.movers o) m (line_of p) interval
+covered s c o m p interval whole ids is i motions less = record {
   numbers = interval_numbers p.start s.step interval;
-  octagon = occupancy_stands s.step c.steps s.movers o _
-      (includes_flat_map occupancy_lines o.participants p _ i (rw zero-add at (octagon_listed p.id 0 c.steps interval (interval_numbers p.start s.step) p.octs (is.octagons ∙ ap (map (interval_numbers p.start s.step)) (below-from c.steps)) holds.printed)));
-  in_octagon = holds_bodies p.start s.step interval is.range states t state q admissible.0 at holds.low holds.high disc;
-  in_lane = in_lane s c o m p is i motions states admissible t state at interval holds q disc;
+  printed = record {
+    listed = occupancy_stands s.step c.steps s.movers o _
+        (includes_flat_map occupancy_lines o.participants p _ i (rw zero-add at (octagon_listed p.id 0 c.steps interval (interval_numbers p.start s.step) p.octs (is.octagons ∙ ap (map (interval_numbers p.start s.step)) (below-from c.steps)) less)));
+    alone = λ others listed. octagon_alone s c.steps o whole ids m p interval others is i listed;
+  };
+  holds = λ states admissible t state at holds q disc. record {
+    octagon = holds_bodies p.start s.step interval is.range states t state q admissible.0 at holds.low holds.high disc;
+    lane = in_lane s c o m p is i motions states admissible t state at interval holds q disc;
+  };
 }
 
 -- the lines of a prediction claim what they should
-pub prediction_covers : (s : Scenario) (c : Command) (o : Occupancies) → IsInRange s → IsPredicted s c.steps o → CoversParticipants s c (prediction_lines s.step c.steps s.movers o)
-prediction_covers s c o range predicted =
+pub prediction_covers : (s : Scenario) (c : Command) (o : Occupancies) → IsInRange s → HaveUniqueIds s → IsPredicted s c.steps o → CoversParticipants s c (prediction_lines s.step c.steps s.movers o)
+prediction_covers s c o range ids predicted =
     let lanes = s.lanelets.entries in
     let is = predicted.is in record {
       movers = λ m i zero.
-          let (p, j, one) = partner (IsParticipant lanes s.step c.steps) (starting s.movers) o.participants m is.participants (includes_filter (λ (x : Mover). x.time == 0) s.movers m (at_zero m.time zero) i) in (
-            line_of p,
-            obstacle_stands s.step c.steps s.movers o _ (mover_listed lanes s.step c.steps s.movers o.participants p is.participants j),
-            is_mover_line lanes s.step c.steps m p (all_included IsMoverInRange s.movers m range.movers i) one,
-            covered s c o m p one j (all_included (HoldsMotions lanes s.step c.steps) o.participants p predicted.holds j),
-          );
+          let (p, j, one) = partner (IsParticipant lanes s.step c.steps) (starting s.movers) o.participants m is.participants (includes_filter (λ (x : Mover). x.time == 0) s.movers m (at_zero m.time zero) i) in record {
+            line = line_of p;
+            printed = obstacle_stands s.step c.steps s.movers o _ (mover_listed lanes s.step c.steps s.movers o.participants p is.participants j);
+            alone = λ other listed same. mover_alone s c.steps o is ids p other j listed same;
+            line_is = is_mover_line lanes s.step c.steps m p (all_included IsMoverInRange s.movers m range.movers i) one;
+            covered = λ interval less. covered s c o m p interval is ids one j (all_included (HoldsMotions lanes s.step c.steps) o.participants p predicted.holds j) less;
+          };
       fixed = λ f i.
-          let (n, j, one) = partner IsFixedOctagon s.fixed o.fixed f is.fixed i in (
-            disc_numbers (pt f.x f.y) f.enclosing,
-            octagon_stands s.step c.steps s.movers o _ (subst (Includes (map octagon_line o.fixed)) (octagon_is f n one) (includes_map octagon_line o.fixed n j)),
-            λ q disc. disc_in_octagon (pt f.x f.y) q f.enclosing (small f (all_included IsFixedInRange s.fixed f range.fixed i)) disc,
-          );
+          let (n, j, one) = partner IsFixedOctagon s.fixed o.fixed f is.fixed i in record {
+            numbers = disc_numbers (pt f.x f.y) f.enclosing;
+            printed = octagon_stands s.step c.steps s.movers o _ (subst (Includes (map octagon_line o.fixed)) (octagon_is f n one) (includes_map octagon_line o.fixed n j));
+            alone = λ others listed. fixed_alone s c.steps o is ids f others i listed;
+            holds = λ q disc. disc_in_octagon (pt f.x f.y) q f.enclosing (small f (all_included IsFixedInRange s.fixed f range.fixed i)) disc;
+          };
     }
   where
     small : (f : Fixed) → IsFixedInRange f → f.enclosing < 2 ^ 63

@@ -1,4 +1,5 @@
 pub mod CellSizes
+pub mod Alone
 pub mod Covers
 pub mod Writing
 pub mod Obstacles
@@ -7,4 +8,5 @@ pub mod Fits
 pub mod Sizes
 pub mod Runs
 pub mod Limits
+pub mod Causes
 pub mod Refusals

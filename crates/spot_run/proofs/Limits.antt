@@ -1,31 +1,29 @@
 -- When a run passes a limit.
-use Rattle.std.proofs.Common.{◌≡◌, ◌∙◌, ◌⊎◌, inl, inr, ℕ, ◌<◌, ◌≤◌, List, length, Option, Some, Err, refl, sym, ap, subst, arith}
+use Rattle.std.proofs.Common.{◌≡◌, ◌∙◌, ◌⊎◌, inl, inr, ℕ, ◌<◌, ◌≤◌, List, length, Option, Some, refl, sym, ap, subst, arith}
 use Rattle.std.specs.Prelude.{slice_get}
 use Rattle.spot_terms.specs.Cells.{Lane, cells}
 use Rattle.spot_terms.specs.Limits.{IsTooWide, AreNarrowBelow, IsFirstWide, HasNetwork}
 use Rattle.spot_terms.specs.Participants.{starting, PairsSumTo, HasPairs}
 use Rattle.spot_terms.specs.declared.command.Command.{Command}
-use Rattle.spot_terms.specs.declared.command.Task.TheVariants.{Predict}
 use Rattle.spot_terms.specs.declared.scenario.Scenario.{Scenario}
 use Rattle.spot_terms.specs.declared.status.Which.{Which}
 use Rattle.spot_terms.specs.declared.status.Which.TheVariants.{TooManyCells, LaneTooWide, TooManyLanePolygons}
 use Rattle.spot_terms.specs.declared.status.Status.{Status}
-use Rattle.spot_terms.specs.declared.status.Status.TheVariants.{Open, BadWords, Limit, WriteFault, Memory}
-use Rattle.spot_tree.proofs.Readings.{one_tree}
+use Rattle.spot_terms.specs.declared.status.Status.TheVariants.{Open, Limit, WriteFault, Memory}
 use Rattle.scenario.proofs.Unique.{both_some}
-use Rattle.convex_poly.proofs.Places.{order}
-use Rattle.spot_claims.specs.Scenario.{IsScenario}
-use Rattle.spot_claims.specs.Answers.{Meaning, AreNoCommand, IsAccepting, IsWithinLimits, IsOutside, TooManyCellsExactly, LaneTooWideExactly, TooManyLanePolygonsExactly, Completes, most_bytes, most_pairs}
+use Rattle.spot_terms.proofs.Orders.{below_or_at_least}
+use Rattle.spot_claims.specs.Answers.{ExactlyWhere, IsOutside, HasManyCells, HasWideLane, HasManyPairs, ExactlyFor, TooManyCellsExactly, LaneTooWideExactly, TooManyLanePolygonsExactly}
+use Rattle.spot_claims.specs.Runs.{Run}
+use Rattle.spot_claims.specs.Stages.{IsTold, IsAccepting, most_pairs}
 use Rattle.participants.proofs.OneNumber.{pairs_are_one}
-use Rattle.spot_run.specs.Loads.{Loads, IsLoadFault}
 use Rattle.spot_run.specs.Writes.{IsPastLimit, WritesPrediction}
 use Rattle.spot_run.proofs.CellSizes.{item_below}
-use Rattle.spot_run.proofs.Runs.{IsOne, Knows, AreAlike, alike, outside_at}
+use Rattle.spot_run.proofs.Runs.{IsForPrediction, HasLoaded, AreAlike, alike, reads_input, predicts, is_built, input_of, is_input, passes}
 
 -- ---- one lanelet is the first that is too wide
 
 before_first : (lanes : List Lane) (e f : ℕ) (l : Lane) → AreNarrowBelow lanes f → slice_get lanes e ≡ Some l → IsTooWide l.1 → f ≤ e
-before_first lanes e f l narrow at wide = elim (order e f) [
+before_first lanes e f l narrow at wide = elim (below_or_at_least e f) [
   | inl below ↦ absurd (narrow e l below at wide)
   | inr not ↦ not
 ]
@@ -78,12 +76,12 @@ module _ (s : Scenario) (steps : ℕ) (before after : Option (List ℕ)) where
   pairs_come status count network pairs many h = absurd h
 
 -- within the limits only memory can be wanted
-past_none : (s : Scenario) (c : Command) (status : Status) → IsWithinLimits s c → IsPastLimit s c.steps status → status ≡ Memory
-past_none s c Memory within h = refl
-past_none s c (Limit TooManyCells step n) within h = absurd (too_many (length (cells s.lanelets.entries)) n 100_000 within.network.few h.1 h.2)
-past_none s c (Limit LaneTooWide step id) within h = absurd (none_wide s.lanelets.entries id within.network h.2)
-past_none s c (Limit TooManyLanePolygons step n) within h = absurd (too_many n n most_pairs (within.pairs n h.2) refl h.3)
-past_none s c status within h = absurd h
+pub past_none : (s : Scenario) (steps : ℕ) (status : Status) → HasNetwork s.lanelets.entries → ((n : ℕ) → HasPairs s steps n → n ≤ most_pairs) → IsPastLimit s steps status → status ≡ Memory
+past_none s steps Memory network pairs h = refl
+past_none s steps (Limit TooManyCells step n) network pairs h = absurd (too_many (length (cells s.lanelets.entries)) n 100_000 network.few h.1 h.2)
+past_none s steps (Limit LaneTooWide step id) network pairs h = absurd (none_wide s.lanelets.entries id network h.2)
+past_none s steps (Limit TooManyLanePolygons step n) network pairs h = absurd (too_many n n most_pairs (pairs n h.2) refl h.3)
+past_none s steps status network pairs h = absurd h
 
 -- ---- after a prediction
 
@@ -93,63 +91,48 @@ pairs_carried s t steps n same h =
     subst (λ ls. PairsSumTo ls s.step steps (starting s.movers) n) same.lanes
     (subst (λ k. PairsSumTo t.lanelets.entries k steps (starting s.movers) n) same.step (subst (λ ms. PairsSumTo t.lanelets.entries t.step steps (starting ms) n) same.movers h))
 
-abbrev pub IsShort : Option (List ℕ) → Type 0
-IsShort told = (bytes : List ℕ) → told ≡ Some bytes → length bytes ≤ most_bytes
+-- what is said of the command that was read is said of each that the words stand for
+pub exactly_for : (run : Run) (c : Command) (Cause : Scenario → Command → Type 0) (answer : Status) → IsForPrediction run c
+    → ((bytes : List ℕ) → run.told ≡ Some bytes → ExactlyWhere ((s : Scenario) × IsAccepting c run.told s × Cause s c) answer run.status) → ExactlyFor run Cause answer
+exactly_for run c Cause answer for at = λ d stands. subst (λ (x : Command). IsTold x run.told → ExactlyWhere ((s : Scenario) × IsAccepting x run.told s × Cause s x) answer run.status) (sym (for.only d stands))
+    (λ told. let (bytes, is) = told (reads_input c for.task) in at bytes is)
 
-module _ (W : Meaning) (told before after : Option (List ℕ)) (status : Status) (s : Scenario) (c : Command) where
-  pub too_many_cells_written : W c → c.task ≡ Predict → Knows told s → IsShort told → WritesPrediction s c.steps before after status → TooManyCellsExactly W told status
-  too_many_cells_written stands task known short h = λ bytes count told_is. record {
-    only = λ e. let past = subst (WritesPrediction s c.steps before after) e h in (s, record { read = ((c, stands, task), short bytes told_is); scenario = known bytes told_is }, past.1, past.2);
-    comes = λ (t, accepting, is, many). let same = alike bytes t s accepting.scenario (known bytes told_is) in cells_come s c.steps before after status count (is ∙ ap (λ ls. length (cells ls)) same.lanes) many h;
-  }
+-- the scenario of an accepted input is the one that was loaded
+pub accepted_alike : (run : Run) (c : Command) (s t : Scenario) → HasLoaded run c s → IsAccepting c run.told t → AreAlike t s
+accepted_alike run c s t h accepting =
+    let told = (input_of c h.for.task run.told accepting.bytes accepting.input).0 in
+    alike accepting.bytes t s accepting.scenario (h.told accepting.bytes told).1
 
-  pub lane_too_wide_written : W c → c.task ≡ Predict → Knows told s → IsShort told → WritesPrediction s c.steps before after status → LaneTooWideExactly W told status
-  lane_too_wide_written stands task known short h = λ bytes id told_is. record {
-    only = λ e. let past = subst (WritesPrediction s c.steps before after) e h in (s, record { read = ((c, stands, task), short bytes told_is); scenario = known bytes told_is }, past.1, past.2);
-    comes = λ (t, accepting, few, first). let same = alike bytes t s accepting.scenario (known bytes told_is) in
-        wide_comes s c.steps before after status id (subst (λ ls. length (cells ls) ≤ 100_000) same.lanes few) (subst (λ ls. IsFirstWide ls (Some id)) same.lanes first) h;
-  }
+-- the scenario that was loaded is accepted
+pub accepts : (run : Run) (c : Command) (s : Scenario) (bytes : List ℕ) → HasLoaded run c s → run.told ≡ Some bytes → IsAccepting c run.told s
+accepts run c s bytes h told = record {
+  built = is_built c h.for.task;
+  bytes = bytes;
+  input = is_input c h.for.task run.told bytes told (h.told bytes told).0.0;
+  scenario = (h.told bytes told).1;
+}
 
-  pub too_many_lane_polygons_written : IsOne W → W c → c.task ≡ Predict → Knows told s → IsShort told → WritesPrediction s c.steps before after status → TooManyLanePolygonsExactly W told status
-  too_many_lane_polygons_written one stands task known short h = λ bytes count told_is. record {
-    only = λ e. let past = subst (WritesPrediction s c.steps before after) e h in (c, stands, s, record { read = ((c, stands, task), short bytes told_is); scenario = known bytes told_is }, past.1, past.2, past.3);
-    comes = λ (d, other, t, accepting, network, pairs, many). let same = alike bytes t s accepting.scenario (known bytes told_is) in
-        pairs_come s c.steps before after status count (subst HasNetwork same.lanes network) (pairs_carried s t c.steps count same (subst (λ (x : Command). HasPairs t x.steps count) (one d c other stands) pairs)) many h;
-  }
+module _ (run : Run) (c : Command) (s : Scenario) (h : HasLoaded run c s) where
+  pub too_many_cells : TooManyCellsExactly run
+  too_many_cells = λ count. exactly_for run c (HasManyCells count) (Limit TooManyCells 0 count) h.for (λ bytes told. record {
+    only = λ e. let past = subst (WritesPrediction s c.steps run.before run.after) e h.written in
+        (s, accepts run c s bytes h told, record { passing = passes c h.for.task s; predicts = predicts c h.for.task; count_is = past.1; many = past.2 });
+    comes = λ (t, accepting, cause). let same = accepted_alike run c s t h accepting in
+        cells_come s c.steps run.before run.after run.status count (cause.count_is ∙ ap (λ ls. length (cells ls)) same.lanes) cause.many h.written;
+  })
 
-  -- where nothing fails and no limit is passed, the report is written
-  pub complete_written : {risen : Type 0} → IsOne W → W c → Knows told s → (status ≡ WriteFault → risen) → WritesPrediction s c.steps before after status → Completes W told risen status
-  complete_written one stands known cause h = λ bytes d other task told_is few tree tree_is accepted within none.
-      let (own, own_is, scenario) = known bytes told_is in
-      let limits : IsWithinLimits s c = subst (IsWithinLimits s) (one d c other stands) (within s (subst (λ x. IsScenario x s) (one_tree bytes own tree own_is tree_is) scenario)) in
-      written status cause h limits none
-    where
-      written : {risen : Type 0} (status : Status) → (status ≡ WriteFault → risen) → WritesPrediction s c.steps before after status → IsWithinLimits s c → (risen → ⊥) → (status ≡ Open) ⊎ (status ≡ Memory)
-      written Open cause h limits none = inl refl
-      written WriteFault cause h limits none = absurd (none (cause refl))
-      written status cause h limits none = inr (past_none s c status limits h)
+  pub lane_too_wide : LaneTooWideExactly run
+  lane_too_wide = λ id. exactly_for run c (HasWideLane id) (Limit LaneTooWide 0 id) h.for (λ bytes told. record {
+    only = λ e. let past = subst (WritesPrediction s c.steps run.before run.after) e h.written in
+        (s, accepts run c s bytes h told, record { passing = passes c h.for.task s; predicts = predicts c h.for.task; few = past.1; first = past.2 });
+    comes = λ (t, accepting, cause). let same = accepted_alike run c s t h accepting in
+        wide_comes s c.steps run.before run.after run.status id (subst (λ ls. length (cells ls) ≤ 100_000) same.lanes cause.few) (subst (λ ls. IsFirstWide ls (Some id)) same.lanes cause.first) h.written;
+  })
 
--- ---- after a fault of loading
-
-module _ (W : Meaning) (told left : Option (List ℕ)) (status : Status) where
-  accepted_at : (bytes : List ℕ) (s : Scenario) → told ≡ Some bytes → ((bytes : List ℕ) → told ≡ Some bytes → Loads bytes left (Err status)) → IsLoadFault status → IsAccepting W bytes s → IsOutside status
-  accepted_at bytes s told_is loads fault accepting =
-      let (tree, tree_is, scenario) = accepting.scenario in outside_at bytes left tree status (loads bytes told_is) fault accepting.read.1 tree_is scenario.accepted
-
-  pub too_many_cells_at : ((bytes : List ℕ) → told ≡ Some bytes → Loads bytes left (Err status)) → IsLoadFault status → TooManyCellsExactly W told status
-  too_many_cells_at loads fault = λ bytes count told_is. record { only = λ e. absurd (subst IsLoadFault e fault); comes = λ cause. inr (accepted_at bytes cause.0 told_is loads fault cause.1) }
-
-  pub lane_too_wide_at : ((bytes : List ℕ) → told ≡ Some bytes → Loads bytes left (Err status)) → IsLoadFault status → LaneTooWideExactly W told status
-  lane_too_wide_at loads fault = λ bytes id told_is. record { only = λ e. absurd (subst IsLoadFault e fault); comes = λ cause. inr (accepted_at bytes cause.0 told_is loads fault cause.1) }
-
-  pub too_many_lane_polygons_at : ((bytes : List ℕ) → told ≡ Some bytes → Loads bytes left (Err status)) → IsLoadFault status → TooManyLanePolygonsExactly W told status
-  too_many_lane_polygons_at loads fault = λ bytes count told_is. record { only = λ e. absurd (subst IsLoadFault e fault); comes = λ cause. inr (accepted_at bytes cause.2 told_is loads fault cause.3) }
-
--- ---- where the words stand for no command
-
-module _ (W : Meaning) (told : Option (List ℕ)) (nothing : AreNoCommand W) where
-  pub lane_too_wide_no_command : LaneTooWideExactly W told BadWords
-  lane_too_wide_no_command = λ bytes id told_is. record { only = λ e. cc; comes = λ cause. absurd (nothing cause.1.read.0.0 cause.1.read.0.1) }
-
-  pub too_many_lane_polygons_no_command : TooManyLanePolygonsExactly W told BadWords
-  too_many_lane_polygons_no_command = λ bytes count told_is. record { only = λ e. cc; comes = λ cause. absurd (nothing cause.0 cause.1) }
+  pub too_many_lane_polygons : TooManyLanePolygonsExactly run
+  too_many_lane_polygons = λ count. exactly_for run c (HasManyPairs count) (Limit TooManyLanePolygons 0 count) h.for (λ bytes told. record {
+    only = λ e. let past = subst (WritesPrediction s c.steps run.before run.after) e h.written in
+        (s, accepts run c s bytes h told, record { passing = passes c h.for.task s; predicts = predicts c h.for.task; network = past.1; count_is = past.2; many = past.3 });
+    comes = λ (t, accepting, cause). let same = accepted_alike run c s t h accepting in
+        pairs_come s c.steps run.before run.after run.status count (subst HasNetwork same.lanes cause.network) (pairs_carried s t c.steps count same cause.count_is) cause.many h.written;
+  })

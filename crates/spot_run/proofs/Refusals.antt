@@ -12,7 +12,8 @@ use Rattle.spot_terms.specs.declared.status.Status.TheVariants.{Refused, Memory}
 use Rattle.spot_claims.specs.Tree.{Element, IsTreeOf}
 use Rattle.spot_claims.specs.Scenario.{IsScenario}
 use Rattle.spot_claims.specs.Profile.{Line, Check, code_of, profile, IsRefused}
-use Rattle.spot_claims.specs.Answers.{IsOfCheck, most_bytes}
+use Rattle.spot_claims.specs.Answers.{IsOfCheck}
+use Rattle.spot_claims.specs.Stages.{most_bytes}
 use Rattle.std.specs.declared.vec.Vec.{Vec}
 use Rattle.std.specs.declared.alloc.Global.{Global}
 use Rattle.spot_io.specs.Reads.{ReadsAll}

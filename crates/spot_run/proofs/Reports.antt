@@ -1,12 +1,13 @@
 -- The lines of a prediction are the report of the scenario.
 use Rattle.std.proofs.Common.{◌≡◌, ◌∙◌, inl, inr, ℕ, zero, suc, ◌+◌, ◌==◌, ◌<◌, Bool, true, false, cond, List, [], ◌∷◌, ◌++◌, map, refl, sym, ap, ap₂, arith, ℤ}
-use Rattle.std.specs.List.{flat_map}
+use Rattle.std.specs.List.{flat_map, AllByRecursion}
 use Rattle.std.proofs.lemmas.Bool.Decides.{nat_tests}
 use Rattle.spot_terms.specs.Lists.{Pairwise, numbers_from}
 use Rattle.spot_terms.specs.Reach.{interval_numbers}
 use Rattle.spot_terms.specs.Report.{Line, mover_line, late_line, fixed_line, occ_line}
 use Rattle.spot_terms.specs.LanePolygons.{LanePolygon}
 use Rattle.spot_terms.specs.Participants.{starting}
+use Rattle.spot_terms.specs.Ranges.{IsInRange, IsMoverInRange}
 use Rattle.spot_terms.specs.declared.lines.MoverLine.{MoverLine}
 use Rattle.spot_terms.specs.declared.command.Command.{Command}
 use Rattle.spot_terms.specs.declared.scenario.Mover.{Mover}
@@ -20,7 +21,7 @@ use Rattle.spot_claims.specs.ReportOf.{IsExactMover, IsObstacleLine, fixed_of, m
 use Rattle.participants.specs.declared.participant.Participant.{Participant}
 use Rattle.participants.specs.Predictions.{IsParticipant, IsFixedOctagon, Occupancies, IsPrediction}
 use Rattle.spot_run.specs.Lines.{line_of, obstacle_lines, octagon_line, polygon_line, lane_lines, octagon_lines, occupancy_lines, traffic_lines, prediction_lines}
-use Rattle.spot_run.proofs.Covers.{Partners}
+use Rattle.spot_run.proofs.Covers.{Partners, is_mover_line}
 
 is_zero : (n : ℕ) → (n == 0) ≡ true → n ≡ 0
 is_zero n h = grind (arith, nat_tests)
@@ -30,11 +31,11 @@ not_zero n h = grind (arith, nat_tests)
 
 -- ---- the obstacles
 
-exact_mover : (s : Scenario) (k steps : ℕ) (m : Mover) (p : Participant) → IsParticipant s.lanelets.entries k steps m p → IsExactMover s m (line_of p)
-exact_mover s k steps m p is = record {
-  id = is.id;
+exact_mover : (s : Scenario) (k steps : ℕ) (m : Mover) (p : Participant) → IsMoverInRange m → IsParticipant s.lanelets.entries k steps m p → IsExactMover s m (line_of p)
+exact_mover s k steps m p range is = record {
+  line_is = is_mover_line s.lanelets.entries k steps m p range is;
+  box = is.start.b;
   lane = is.lane;
-  start = is.start;
 }
 
 late_alone : (s : Scenario) (k steps : ℕ) (m : Mover) (ms : List Mover) (t : Bool) → (m.time == 0) ≡ t → (Partners s.lanelets.entries k steps ms [] → Pairwise (IsObstacleLine s) ms (obstacle_lines ms []))
@@ -42,17 +43,17 @@ late_alone : (s : Scenario) (k steps : ℕ) (m : Mover) (ms : List Mover) (t : B
 late_alone s k steps m ms true e rest pairs = absurd pairs
 late_alone s k steps m ms false e rest pairs = (inr (not_zero m.time e, refl), rest pairs)
 
-mover_or_late : (s : Scenario) (k steps : ℕ) (m : Mover) (ms : List Mover) (p : Participant) (ps : List Participant) (t : Bool) → (m.time == 0) ≡ t
+mover_or_late : (s : Scenario) (k steps : ℕ) (m : Mover) (ms : List Mover) (p : Participant) (ps : List Participant) (t : Bool) → IsMoverInRange m → (m.time == 0) ≡ t
     → (Partners s.lanelets.entries k steps ms ps → Pairwise (IsObstacleLine s) ms (obstacle_lines ms ps)) → (Partners s.lanelets.entries k steps ms (p ∷ ps) → Pairwise (IsObstacleLine s) ms (obstacle_lines ms (p ∷ ps)))
     → Pairwise (IsParticipant s.lanelets.entries k steps) (cond t (m ∷ starting ms) (starting ms)) (p ∷ ps)
     → Pairwise (IsObstacleLine s) (m ∷ ms) (cond t (mover_line (line_of p) ∷ obstacle_lines ms ps) (late_line m.id m.time ∷ obstacle_lines ms (p ∷ ps)))
-mover_or_late s k steps m ms p ps true e rest same pairs = (inl (is_zero m.time e, (line_of p, refl, exact_mover s k steps m p pairs.0)), rest pairs.1)
-mover_or_late s k steps m ms p ps false e rest same pairs = (inr (not_zero m.time e, refl), same pairs)
+mover_or_late s k steps m ms p ps true range e rest same pairs = (inl (is_zero m.time e, (line_of p, refl, exact_mover s k steps m p range pairs.0)), rest pairs.1)
+mover_or_late s k steps m ms p ps false range e rest same pairs = (inr (not_zero m.time e, refl), same pairs)
 
-obstacles_are : (s : Scenario) (k steps : ℕ) (ms : List Mover) (ps : List Participant) → Partners s.lanelets.entries k steps ms ps → Pairwise (IsObstacleLine s) ms (obstacle_lines ms ps)
-obstacles_are s k steps [] ps pairs = tt
-obstacles_are s k steps (m ∷ ms) [] pairs = late_alone s k steps m ms (m.time == 0) refl (obstacles_are s k steps ms []) pairs
-obstacles_are s k steps (m ∷ ms) (p ∷ ps) pairs = mover_or_late s k steps m ms p ps (m.time == 0) refl (obstacles_are s k steps ms ps) (obstacles_are s k steps ms (p ∷ ps)) pairs
+obstacles_are : (s : Scenario) (k steps : ℕ) (ms : List Mover) (ps : List Participant) → AllByRecursion IsMoverInRange ms → Partners s.lanelets.entries k steps ms ps → Pairwise (IsObstacleLine s) ms (obstacle_lines ms ps)
+obstacles_are s k steps [] ps range pairs = tt
+obstacles_are s k steps (m ∷ ms) [] range pairs = late_alone s k steps m ms (m.time == 0) refl (obstacles_are s k steps ms [] range.1) pairs
+obstacles_are s k steps (m ∷ ms) (p ∷ ps) range pairs = mover_or_late s k steps m ms p ps (m.time == 0) range.0 refl (obstacles_are s k steps ms ps range.1) (obstacles_are s k steps ms (p ∷ ps) range.1) pairs
 
 -- ---- the movers among their lines
 
@@ -124,14 +125,14 @@ all_occupancies s c (m ∷ ms) (p ∷ ps) pairs = ap₂ (λ (a b : List Line). a
 fixed_is : (f : Fixed) (o : ℕ × OctNumbers) → IsFixedOctagon f o → fixed_of f ≡ octagon_line o
 fixed_is f o h = sym (ap₂ (λ (id : ℕ) (ns : List ℤ). fixed_line id ns) h.0 h.1)
 
-pub predict_report : (s : Scenario) (c : Command) (o : Occupancies) → IsPrediction s c.steps o → IsPredictReport s c (prediction_lines s.step c.steps s.movers o)
-predict_report s c o is =
+pub predict_report : (s : Scenario) (c : Command) (o : Occupancies) → IsInRange s → IsPrediction s c.steps o → IsPredictReport s c (prediction_lines s.step c.steps s.movers o)
+predict_report s c o range is =
     let obstacles = obstacle_lines s.movers o.participants in
     let movers : movers_in obstacles ≡ map line_of o.participants = movers_are s s.step c.steps s.movers o.participants is.participants in record {
       traffic = traffic_lines s.movers o;
       traffic_is = record {
         obstacles = obstacles;
-        obstacles_are = obstacles_are s s.step c.steps s.movers o.participants is.participants;
+        obstacles_are = obstacles_are s s.step c.steps s.movers o.participants range.movers is.participants;
         polygons = map polygons_of o.participants;
         polygons_are = rw movers (polygons_are s c (starting s.movers) o.participants is.participants);
         lines_are = lines_are movers;

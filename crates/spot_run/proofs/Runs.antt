@@ -1,64 +1,102 @@
 -- What a run says, from what its parts say.
-use Rattle.std.proofs.Common.{◌≡◌, ◌∙◌, inl, inr, ℕ, ◌<◌, ◌≤◌, List, [], ◌++◌, length, Option, Some, None, Err, refl, sym, ap, subst, arith, append-nil}
+use Rattle.std.proofs.Common.{◌≡◌, ◌∙◌, ℕ, ◌≤◌, List, [], ◌∷◌, ◌++◌, length, Option, Some, None, refl, sym, ap, subst, append-nil}
 use Rattle.std.specs.Prelude.{IfSome, IfNone}
 use Rattle.std.specs.Io.KnownBytes.{Appends}
 use Rattle.std.proofs.lemmas.List.{append_cancel_left}
+use Rattle.spot_terms.specs.Ids.{HaveUniqueIds}
 use Rattle.spot_terms.specs.LaneMotions.{IsLaneMotion}
 use Rattle.spot_terms.specs.Lists.{Includes}
 use Rattle.spot_terms.specs.Motions.{State}
 use Rattle.spot_terms.specs.Participants.{FollowsLanes}
 use Rattle.spot_terms.specs.Ranges.{IsCommandInRange, IsInRange}
-use Rattle.spot_terms.specs.Report.{Line}
+use Rattle.spot_terms.specs.Report.{Line, head_line, time_line, last_line, report_text, IsReport}
+use Rattle.spot_terms.specs.Statuses.{IsDone}
+use Rattle.spot_terms.specs.Tasks.{ReadsInput, PredictsTraffic, FindsArea}
 use Rattle.spot_terms.specs.declared.command.Command.{Command}
+use Rattle.spot_terms.specs.declared.command.Task.{Task}
 use Rattle.spot_terms.specs.declared.command.Task.TheVariants.{Predict}
+use Rattle.spot_terms.specs.declared.lines.End.TheVariants as end
+use Rattle.spot_terms.specs.declared.lines.Mode.TheVariants as mode
 use Rattle.spot_terms.specs.declared.lines.MoverLine.{MoverLine}
 use Rattle.spot_terms.specs.declared.scenario.Mover.{Mover}
 use Rattle.spot_terms.specs.declared.scenario.Scenario.{Scenario}
-use Rattle.spot_terms.specs.declared.status.Code.{Code}
-use Rattle.spot_terms.specs.declared.status.Code.TheVariants.{NotJson, NotTree}
-use Rattle.spot_terms.specs.declared.status.Which.TheVariants.{TooLong, TooManyCells, LaneTooWide, TooManyLanePolygons}
 use Rattle.spot_terms.specs.declared.status.Status.{Status}
-use Rattle.spot_terms.specs.declared.status.Status.TheVariants.{Open, BadWords, Refused, Limit, ReadFault, WriteFault, Memory}
+use Rattle.spot_terms.specs.declared.status.Status.TheVariants.{Open, Empty, WriteFault}
 use Rattle.spot_terms.proofs.ReportText.{texts_tell}
-use Rattle.spot_tree.proofs.Readings.{one_tree, tree_is_json, tree_has_no_fault}
-use Rattle.scenario.proofs.OneRefusal.{one_refusal}
+use Rattle.spot_tree.proofs.Readings.{one_tree}
 use Rattle.scenario.proofs.Unique.{scenario_is_one}
 use Rattle.lanelets.specs.Buildable.{AreBuildable}
-use Rattle.spot_claims.specs.Tree.{Element, IsTreeOf}
-use Rattle.spot_claims.specs.Profile.{IsAccepted, IsRefused}
+use Rattle.spot_claims.specs.Built.{IsBuilt, IsBuiltWhole}
+use Rattle.spot_claims.specs.Headline.{BeginsWith, ClaimsOf, Claims, Reports, Headline}
+use Rattle.spot_claims.specs.Outcomes.{MayBeInput, TakesOutput, WritesOutput}
+use Rattle.spot_claims.specs.Outputs.{IsOutputOf, IsOutput, IsWritten, status_of, Writes}
+use Rattle.spot_claims.specs.ParticipantClaims.{HoldsTick, IsAdmissible, IsCovered, CoversMover, CoversParticipants}
+use Rattle.spot_claims.specs.Runs.{Run, WriteFails}
 use Rattle.spot_claims.specs.Scenario.{IsScenario, IsScenarioOf}
-use Rattle.spot_claims.specs.Headline.{HoldsTick, IsAdmissible, CoversParticipants, Headline}
-use Rattle.spot_claims.specs.Answers.{Meaning, AreForOtherTask, AreForPredict, AreNoCommand, IsWithinLimits, IsOutside, IsRefusedAt, IsOfCheck, IsRead, ExactlyWhere, BadWordsExactly, NotJsonExactly, NotTreeExactly, RefusedExactly, NotYetExactly, TooLongExactly, IsKnown, ReadsSource, Completes, TakesReport, WritesReport, most_bytes}
+use Rattle.spot_claims.specs.Stages.{IsInputOf, IsInput, PassesToNetwork, IsWithinTraffic, IsWithinLimits, most_bytes, AreForReading}
 use Rattle.participants.specs.Predictions.{Occupancies}
-use Rattle.spot_run.specs.Lines.{prediction_lines}
-use Rattle.spot_run.specs.Loads.{Loads, IsLoadFault}
+use Rattle.spot_run.specs.Lines.{traffic_lines, prediction_lines}
+use Rattle.spot_run.specs.Loads.{IsReadWhole}
 use Rattle.spot_run.specs.Writes.{report_of, IsPredicted, TakesPrediction, WritesPrediction}
 use Rattle.spot_run.proofs.Covers.{prediction_covers}
 use Rattle.spot_run.proofs.Reports.{predict_report}
 use Rattle.spot_run.proofs.Fits.{fits_report}
 
--- the words stand for one command at most
-abbrev pub IsOne : Meaning → Type 0
-IsOne Stands = (c d : Command) → Stands c → Stands d → c ≡ d
+-- ---- words that are for a prediction
 
--- of told bytes the scenario is known
-abbrev pub Knows : Option (List ℕ) → Scenario → Type 0
-Knows told s = (bytes : List ℕ) → told ≡ Some bytes → IsScenarioOf bytes s
+-- the words stand for this command and no other, and it is for a prediction
+pub record IsForPrediction (run : Run) (c : Command) : Type 0 where
+  pub stands : run.Stands c
+  pub only : (d : Command) → run.Stands d → d ≡ c
+  pub range : IsCommandInRange c
+  pub task : c.task ≡ Predict
 
--- the command that was read, or that there is none
-pub read_some : (W : Meaning) (o : Option Command) (c : Command) → o ≡ Some c → IfSome o (λ d. W d) → W c
+pub read_some : (W : Command → Type 0) (o : Option Command) (c : Command) → o ≡ Some c → IfSome o (λ d. W d) → W c
 read_some W o c e h = subst (λ (x : Option Command). IfSome x (λ d. W d)) e h
+
+-- from what reading the words says
+pub for_prediction : (run : Run) (o : Option Command) (c : Command) → o ≡ Some c → IfSome o (λ d. run.Stands d) → IfSome o (λ c. (d : Command) → run.Stands d → d ≡ c) → IfSome o (λ d. IsCommandInRange d)
+    → c.task ≡ Predict → IsForPrediction run c
+for_prediction run o c e stands only range task = record {
+  stands = read_some run.Stands o c e stands;
+  only = read_some (λ (x : Command). (d : Command) → run.Stands d → d ≡ x) o c e only;
+  range = read_some IsCommandInRange o c e range;
+  task = task;
+}
 
 pub read_none : (X : Type 0) (o : Option Command) → o ≡ None → IfNone o X → X
 read_none X o e h = subst (λ (x : Option Command). IfNone x X) e h
 
--- where no other command is read, there is one at most
-pub one_of : (W : Meaning) (c : Command) → ((d : Command) → W d → d ≡ c) → IsOne W
-one_of W c only a b stands other = only a stands ∙ sym (only b other)
+module _ (c : Command) (task : c.task ≡ Predict) where
+  pub reads_input : ReadsInput c.task
+  reads_input = subst ReadsInput (sym task) tt
 
--- a command has at most a hundred steps
-pub few_steps : (c : Command) → IsCommandInRange c → c.steps ≤ 100
-few_steps c h = h.steps.1
+  pub predicts : PredictsTraffic c.task
+  predicts = subst PredictsTraffic (sym task) tt
+
+  pub finds_none : FindsArea c.task → ⊥
+  finds_none h = subst FindsArea task h
+
+  pub is_built : IsBuilt c.task
+  is_built = subst IsBuilt (sym task) tt
+
+  pub is_built_whole : IsBuiltWhole c.task
+  is_built_whole = subst IsBuiltWhole (sym task) tt
+
+  pub input_of : (told : Option (List ℕ)) (bytes : List ℕ) → IsInput c told bytes → (told ≡ Some bytes) × (length bytes ≤ most_bytes)
+  input_of told bytes h = subst (λ (t : Task). IsInputOf t c told bytes) task h
+
+  pub is_input : (told : Option (List ℕ)) (bytes : List ℕ) → told ≡ Some bytes → length bytes ≤ most_bytes → IsInput c told bytes
+  is_input told bytes e few = subst (λ (t : Task). IsInputOf t c told bytes) (sym task) (e, few)
+
+  pub passes : (s : Scenario) → PassesToNetwork s c
+  passes s = record { problem = λ finds. absurd (finds_none finds); built = tt }
+
+  pub within_limits : (s : Scenario) → IsWithinTraffic s c → IsWithinLimits s c
+  within_limits s h = record { traffic = λ _. h; area = λ finds. absurd (finds_none finds) }
+
+pub for_reading : (run : Run) (c : Command) → IsForPrediction run c → AreForReading run
+for_reading run c h = (c, h.stands, is_built c h.task, reads_input c h.task)
 
 -- ---- what was appended
 
@@ -70,14 +108,16 @@ appended (Some xs) (Some ys) old added e h = let same : xs ≡ old = cc in (ys, 
 of_some : (a b : List ℕ) → Some a ≡ Some b → a ≡ b
 of_some a b e = cc
 
+pub same_bytes : (o : Option (List ℕ)) (a b : List ℕ) → o ≡ Some a → o ≡ Some b → a ≡ b
+same_bytes o a b e f = of_some a b (sym e ∙ f)
+
 same_text : (before after : Option (List ℕ)) (old text added : List ℕ) → before ≡ Some old → after ≡ Some (old ++ text) → Appends before after added → text ≡ added
 same_text before after old text added before_is after_is h =
     let (new, is, grown) = appended before after old added before_is h in
     append_cancel_left old text added (of_some (old ++ text) new (sym after_is ∙ is) ∙ grown)
 
--- ---- the headline
+-- ---- bytes have one scenario, but for how its lanelets are kept
 
--- bytes have one scenario, but for how its lanelets are kept
 pub record AreAlike (s t : Scenario) : Type 0 where
   pub step : s.step ≡ t.step
   pub movers : s.movers ≡ t.movers
@@ -89,222 +129,143 @@ alike bytes s t (tree, tree_is, is) (other, other_is, also) =
     let both = scenario_is_one other s t (subst (λ x. IsScenario x s) (one_tree bytes tree other tree_is other_is) is) also in
     record { step = both.0; movers = both.1; fixed = both.2; lanes = both.4 }
 
-carried : (s t : Scenario) (c : Command) (lines : List Line) → AreAlike s t → CoversParticipants s c lines → CoversParticipants t c lines
-carried s t c lines same h = record {
-  movers = λ m i zero.
-      let (line, listed, is, covered) = h.movers m (subst (λ ms. Includes ms m) (sym same.movers) i) zero in
-      (line, listed, is, λ states admissible n state at interval holds q disc. covered states (admitted m line states admissible) n state at interval (subst (λ k. HoldsTick k c.steps interval n) (sym same.step) holds) q disc);
-  fixed = λ f i. h.fixed f (subst (λ fs. Includes fs f) (sym same.fixed) i);
+-- ---- a run that loaded a scenario
+
+-- the scenario that was loaded, and what was written
+pub record HasLoaded (run : Run) (c : Command) (s : Scenario) : Type 0 where
+  pub for : IsForPrediction run c
+  pub told : (bytes : List ℕ) → run.told ≡ Some bytes → IsReadWhole bytes run.left × IsScenarioOf bytes s
+  pub range : IsInRange s
+  pub ids : HaveUniqueIds s
+  pub lanes : AreBuildable s.lanelets.entries
+  pub written : WritesPrediction s c.steps run.before run.after run.status
+  pub cause : run.status ≡ WriteFault → WriteFails run
+
+-- ---- the headline
+
+covered : (s t : Scenario) (c : Command) (lines : List Line) (m : Mover) → AreAlike s t → CoversMover s c lines m → CoversMover t c lines m
+covered s t c lines m same h = record {
+  line = h.line;
+  printed = h.printed;
+  alone = h.alone;
+  line_is = h.line_is;
+  covered = λ i less.
+      let all : IsCovered s c lines m h.line i = h.covered i less in record {
+        numbers = all.numbers;
+        printed = all.printed;
+        holds = λ states admissible n state at holds q disc. all.holds states (admitted h.line states admissible) n state at (subst (λ k. HoldsTick k c.steps i n) (sym same.step) holds) q disc;
+      };
 }
   where
-    admitted : (m : Mover) (line : MoverLine) (states : List State) → IsAdmissible t m line states → IsAdmissible s m line states
-    admitted m line states admissible = (admissible.0, λ follows. subst (λ ls. IsLaneMotion ls line.p line.b line.a line.v line.s states) (sym same.lanes) (admissible.1 (subst (λ ls. FollowsLanes ls m) same.lanes follows)))
+    admitted : (line : MoverLine) (states : List State) → IsAdmissible t m line states → IsAdmissible s m line states
+    admitted line states admissible = (admissible.0, λ follows. subst (λ ls. IsLaneMotion ls line.p line.b line.a line.v line.s states) (sym same.lanes) (admissible.1 (subst (λ ls. FollowsLanes ls m) same.lanes follows)))
 
-pub headline : (W : Meaning) (told before after : Option (List ℕ)) (status : Status) (s : Scenario) (c : Command) → IsOne W → W c → Knows told s → IsInRange s → AreBuildable s.lanelets.entries → c.steps ≤ 100
-    → WritesPrediction s c.steps before after status → Headline W told before after status
-headline W told before after Open s c one stands known range buildable few (o, predicted, app) = λ bytes old text t d lines other told_is of done before_is after_is fits same task.
-    let lines_are : prediction_lines s.step c.steps s.movers o ≡ lines = texts_tell (prediction_lines s.step c.steps s.movers o) lines (fits_report s c.steps o range buildable few predicted) fits
-    (sym (same_text before after old text (report_of s c.steps o) before_is after_is app) ∙ same) in
-    subst (λ x. CoversParticipants t x lines) (one c d stands other)
-    (carried s t c lines (alike bytes s t (known bytes told_is) of) (subst (CoversParticipants s c) lines_are (prediction_covers s c o range predicted)))
-headline W told before after WriteFault s c one stands known range buildable few h = λ bytes old text t d lines other told_is of done before_is after_is fits same task. absurd done
-headline W told before after Memory s c one stands known range buildable few h = λ bytes old text t d lines other told_is of done before_is after_is fits same task. absurd done
-headline W told before after (Limit which step count) s c one stands known range buildable few h = λ bytes old text t d lines other told_is of done before_is after_is fits same task. absurd done
-headline W told before after status s c one stands known range buildable few h = absurd h
+carried : (s t : Scenario) (c : Command) (lines : List Line) → AreAlike s t → CoversParticipants s c lines → CoversParticipants t c lines
+carried s t c lines same h = record {
+  movers = λ m i zero. covered s t c lines m same (h.movers m (subst (λ ms. Includes ms m) (sym same.movers) i) zero);
+  fixed = λ f i. h.fixed f (subst (λ fs. Includes fs f) (sym same.fixed) i);
+}
 
--- ---- the report
+begins : (s t : Scenario) (c : Command) (o : Occupancies) (lines : List Line) → s.step ≡ t.step → prediction_lines s.step c.steps s.movers o ≡ lines → BeginsWith mode.Predict t c lines
+begins s t c o lines same e = record {
+  rest = traffic_lines s.movers o ++ last_line end.Done ∷ [];
+  lines_are = sym e ∙ ap (λ (k : ℕ). head_line mode.Predict ∷ time_line k c.steps ∷ traffic_lines s.movers o ++ last_line end.Done ∷ []) same;
+}
 
-within_limits : (s : Scenario) (c : Command) (o : Occupancies) → IsPredicted s c.steps o → IsWithinLimits s c
-within_limits s c o predicted = record { network = predicted.network; pairs = predicted.pairs }
+-- where a prediction was written, its lines claim what they should
+claims : (run : Run) (s t : Scenario) (c : Command) (o : Occupancies) (text : List ℕ) (lines : List Line) → HasLoaded run c s → IsPredicted s c.steps o → Appends run.before run.after (report_of s c.steps o)
+    → (r : Reports run t c text) → IsReport lines → text ≡ report_text lines → Claims t c lines
+claims run s t c o text lines h predicted app r fits same =
+    let lines_are : prediction_lines s.step c.steps s.movers o ≡ lines = texts_tell (prediction_lines s.step c.steps s.movers o) lines
+    (sym (same_text run.before run.after r.old text (report_of s c.steps o) r.before_is r.after_is app) ∙ same) in
+    let both : AreAlike s t = alike r.bytes s t (h.told r.bytes r.told_is).1 r.scenario_is in
+    subst (λ (task : Task). ClaimsOf task t c lines) (sym h.for.task) (begins s t c o lines both.step lines_are, carried s t c lines both (subst (CoversParticipants s c) lines_are (prediction_covers s c o h.range h.ids predicted)))
 
-pub report : (W : Meaning) (told before after : Option (List ℕ)) (status : Status) (s : Scenario) (c : Command) → W c → c.task ≡ Predict → Knows told s → IsInRange s → AreBuildable s.lanelets.entries → c.steps ≤ 100
-    → WritesPrediction s c.steps before after status → WritesReport W told before after status
-report W told before after Open s c stands task known range buildable few (o, predicted, app) = λ bytes old told_is before_is written.
-    let (new, after_is, grown) = appended before after old (report_of s c.steps o) before_is app in (
+done_writes : (s : Scenario) (steps : ℕ) (before after : Option (List ℕ)) (status : Status) → IsDone status → WritesPrediction s steps before after status → (o : Occupancies) × IsPredicted s steps o × Appends before after (report_of s steps o)
+done_writes s steps before after Open done h = h
+done_writes s steps before after (Empty i) done h = absurd h
+done_writes s steps before after status done h = absurd done
+
+pub headline : (run : Run) (c : Command) (s : Scenario) → HasLoaded run c s → Headline run
+headline run c s h = λ t d text lines r fits same.
+    let one : d ≡ c = h.for.only d r.stands in
+    let (o, predicted, app) = done_writes s c.steps run.before run.after run.status r.done h.written in
+    subst (λ (x : Command). Claims t x lines) (sym one) (claims run s t c o text lines h predicted app (subst (λ (x : Command). Reports run t x text) one r) fits same)
+
+-- ---- the output
+
+traffic_limits : (s : Scenario) (c : Command) (o : Occupancies) → IsPredicted s c.steps o → IsWithinTraffic s c
+traffic_limits s c o predicted = record { network = predicted.network; pairs = predicted.pairs }
+
+is_output : (s : Scenario) (c : Command) (o : Occupancies) → c.task ≡ Predict → IsInRange s → AreBuildable s.lanelets.entries → IsCommandInRange c → IsPredicted s c.steps o → IsOutput s c (report_of s c.steps o) end.Done
+is_output s c o task range lanes few predicted = subst (λ (t : Task). IsOutputOf t s c (report_of s c.steps o) end.Done) (sym task) (
+  record {
+    lines = prediction_lines s.step c.steps s.movers o;
+    report = predict_report s c o range predicted.is;
+    fits = fits_report s c.steps o range lanes few.steps.1 predicted;
+    text_is = refl;
+  },
+  refl,
+)
+
+-- a front of a report was appended
+front_written : (run : Run) (s : Scenario) (c : Command) (o : Occupancies) (bytes old front back : List ℕ) → HasLoaded run c s → run.told ≡ Some bytes → run.before ≡ Some old → IsPredicted s c.steps o
+    → front ++ back ≡ report_of s c.steps o → Appends run.before run.after front → (IsDone run.status → (back ≡ []) × (run.status ≡ status_of c.task end.Done)) → (new : List ℕ) × (run.after ≡ Some new) × Writes run old new
+front_written run s c o bytes old front back h told_is before_is predicted text app whole =
+    let (new, after_is, grown) = appended run.before run.after old front before_is app in (
       new,
       after_is,
       record {
         command = c;
-        stands = stands;
-        task = task;
+        stands = h.for.stands;
+        bytes = bytes;
+        input = is_input c h.for.task run.told bytes told_is (h.told bytes told_is).0.0;
         scenario = s;
-        scenario_is = known bytes told_is;
-        within = within_limits s c o predicted;
-        lines = prediction_lines s.step c.steps s.movers o;
-        report = predict_report s c o predicted.is;
-        fits = fits_report s c.steps o range buildable few predicted;
-        front = report_of s c.steps o;
-        back = [];
-        text = append-nil (report_of s c.steps o);
-        appended = grown;
-        whole = λ done. refl;
-      },
-    )
-report W told before after WriteFault s c stands task known range buildable few (o, predicted, (front, back, text, app)) = λ bytes old told_is before_is written.
-    let (new, after_is, grown) = appended before after old front before_is app in (
-      new,
-      after_is,
-      record {
-        command = c;
-        stands = stands;
-        task = task;
-        scenario = s;
-        scenario_is = known bytes told_is;
-        within = within_limits s c o predicted;
-        lines = prediction_lines s.step c.steps s.movers o;
-        report = predict_report s c o predicted.is;
-        fits = fits_report s c.steps o range buildable few predicted;
+        scenario_is = (h.told bytes told_is).1;
+        within = within_limits c h.for.task s (traffic_limits s c o predicted);
+        text = report_of s c.steps o;
+        ends = end.Done;
+        output = is_output s c o h.for.task h.range h.lanes h.for.range predicted;
         front = front;
         back = back;
-        text = text;
+        text_is = text;
         appended = grown;
-        whole = λ done. absurd done;
+        whole = whole;
       },
     )
-report W told before after Memory s c stands task known range buildable few h = λ bytes old told_is before_is written. absurd written
-report W told before after (Limit which step count) s c stands task known range buildable few h = λ bytes old told_is before_is written. absurd written
-report W told before after status s c stands task known range buildable few h = absurd h
+
+-- what a prediction that was written says, by the status
+written_front : (s : Scenario) (steps : ℕ) (before after : Option (List ℕ)) (status : Status) → IsWritten status → WritesPrediction s steps before after status
+    → (o : Occupancies) × (front back : List ℕ) × IsPredicted s steps o × (front ++ back ≡ report_of s steps o) × Appends before after front × (IsDone status → (back ≡ []) × (status ≡ Open))
+written_front s steps before after Open written (o, predicted, app) = (o, report_of s steps o, [], predicted, append-nil (report_of s steps o), app, λ done. (refl, refl))
+written_front s steps before after WriteFault written (o, predicted, (front, back, text, app)) = (o, front, back, predicted, text, app, λ done. absurd done)
+written_front s steps before after (Empty i) written h = absurd h
+written_front s steps before after status written h = absurd written
+
+opens : (c : Command) → c.task ≡ Predict → status_of c.task end.Done ≡ Open
+opens c task = subst (λ (t : Task). status_of t end.Done ≡ Open) (sym task) refl
+
+pub output : (run : Run) (c : Command) (s : Scenario) → HasLoaded run c s → WritesOutput run
+output run c s h = λ d old stands told before_is written.
+    let (bytes, told_is) = told (subst (λ (x : Command). ReadsInput x.task) (sym (h.for.only d stands)) (reads_input c h.for.task)) in
+    let (o, front, back, predicted, text, app, whole) = written_front s c.steps run.before run.after run.status written h.written in
+    front_written run s c o bytes old front back h told_is before_is predicted text app (λ done. let w = whole done in (w.0, w.1 ∙ sym (opens c h.for.task)))
 
 -- ---- the room in the sink
 
-pub room : (W : Meaning) (told : Option (List ℕ)) (can : ℕ → Type 0) (s : Scenario) (c : Command) (bytes : List ℕ) → TakesReport W told can → W c → c.task ≡ Predict → Knows told s → IsScenarioOf bytes s → TakesPrediction s c.steps can
-room W None can s c bytes takes stands task known of = λ o predicted. takes bytes tt c s (prediction_lines s.step c.steps s.movers o) stands task of (within_limits s c o predicted) (predict_report s c o predicted.is)
-room W (Some all) can s c bytes takes stands task known of = λ o predicted. takes all refl c s (prediction_lines s.step c.steps s.movers o) stands task (known all refl) (within_limits s c o predicted) (predict_report s c o predicted.is)
+pub room : (run : Run) (can : ℕ → Type 0) (s : Scenario) (c : Command) (bytes : List ℕ) → TakesOutput run.Stands run.told can → IsForPrediction run c → ((b : List ℕ) → run.told ≡ Some b → IsScenarioOf b s)
+    → IsScenarioOf bytes s → IsInRange s → AreBuildable s.lanelets.entries → TakesPrediction s c.steps can
+room run can s c bytes takes for known of range lanes = λ o predicted. go run.told refl o predicted
+  where
+    may : (told : Option (List ℕ)) → run.told ≡ told → (b : List ℕ) × IsScenarioOf b s × MayBeInput Predict c told b
+    may None e = (bytes, of, tt)
+    may (Some all) e = (all, known all e, refl)
 
--- ---- other tasks and other forms
-
-no_other : (W : Meaning) (c : Command) → IsOne W → W c → c.task ≡ Predict → AreForOtherTask W → ⊥
-no_other W c one stands task (d, other, not) = not (subst (λ (x : Command). x.task ≡ Predict) (one c d stands other) task)
-
--- a tree of the same bytes is accepted too
-same_accepted : (bytes : List ℕ) (a b : List Element) → IsTreeOf bytes a → IsTreeOf bytes b → IsAccepted a → IsAccepted b
-same_accepted bytes a b h k is = subst IsAccepted (one_tree bytes a b h k) is
-
-not_both : (bytes : List ℕ) (tree : List Element) (code : Code) (place : ℕ) → IsTreeOf bytes tree → IsAccepted tree → IsRefusedAt bytes code place → ⊥
-not_both bytes tree code place tree_is accepted (other, other_is, refused) = same_accepted bytes tree other tree_is other_is accepted place refused.number code refused.fails
-
-not_refused : (bytes : List ℕ) (s : Scenario) (code : Code) (place : ℕ) → IsScenarioOf bytes s → IsRefusedAt bytes code place → ⊥
-not_refused bytes s code place (tree, tree_is, scenario) refused = not_both bytes tree code place tree_is scenario.accepted refused
-
--- ---- after a report
-
-pub not_yet_written : (W : Meaning) (before after : Option (List ℕ)) (status : Status) (s : Scenario) (c : Command) → IsOne W → W c → c.task ≡ Predict → WritesPrediction s c.steps before after status → NotYetExactly W status
-not_yet_written W before after status s c one stands task h = record {
-  only = λ e. absurd (subst (WritesPrediction s c.steps before after) e h);
-  comes = λ other. absurd (no_other W c one stands task other);
-}
-
-pub known_written : (before after : Option (List ℕ)) (steps : ℕ) (status : Status) (s : Scenario) → WritesPrediction s steps before after status → IsKnown status
-known_written before after steps Open s h = tt
-known_written before after steps WriteFault s h = tt
-known_written before after steps Memory s h = tt
-known_written before after steps (Limit TooManyCells step count) s h = h.0
-known_written before after steps (Limit LaneTooWide step id) s h = h.0
-known_written before after steps (Limit TooManyLanePolygons step count) s h = h.0
-known_written before after steps status s h = absurd h
-
-pub bad_words_written : (W : Meaning) (before after : Option (List ℕ)) (status : Status) (s : Scenario) (c : Command) → W c → WritesPrediction s c.steps before after status → BadWordsExactly W status
-bad_words_written W before after status s c stands h = record { only = λ e. absurd (subst (WritesPrediction s c.steps before after) e h); comes = λ nothing. absurd (nothing c stands) }
-
-pub source_read_written : (W : Meaning) (told left before after : Option (List ℕ)) (steps : ℕ) (status : Status) (s : Scenario) → ((bytes : List ℕ) → told ≡ Some bytes → left ≡ Some []) → WritesPrediction s steps before after status → ReadsSource W told left status
-source_read_written W told left before after steps status s empty h = record {
-  whole = λ bytes told_is for later. empty bytes told_is;
-  limit = λ bytes step count told_is e. absurd (subst (WritesPrediction s steps before after) e h);
-}
-
-pub too_long_written : (W : Meaning) (told before after : Option (List ℕ)) (steps : ℕ) (status : Status) (s : Scenario) → ((bytes : List ℕ) → told ≡ Some bytes → length bytes ≤ most_bytes) → WritesPrediction s steps before after status → TooLongExactly W told status
-too_long_written W told before after steps status s few h = λ bytes told_is. record {
-  only = λ e. absurd (subst (WritesPrediction s steps before after) e h);
-  comes = λ cause. let many = cause.1 in let small = few bytes told_is in absurd (omega (arith, many, small));
-}
-
-pub not_json_written : (W : Meaning) (told before after : Option (List ℕ)) (steps : ℕ) (status : Status) (s : Scenario) → Knows told s → WritesPrediction s steps before after status → NotJsonExactly W told status
-not_json_written W told before after steps status s known h = λ bytes told_is. record {
-  only = λ e. absurd (subst (WritesPrediction s steps before after) e h);
-  comes = λ cause. let (tree, tree_is, scenario) = known bytes told_is in absurd (tree_is_json bytes tree tree_is cause.1);
-}
-
-pub not_tree_written : (W : Meaning) (told before after : Option (List ℕ)) (steps : ℕ) (status : Status) (s : Scenario) → Knows told s → WritesPrediction s steps before after status → NotTreeExactly W told status
-not_tree_written W told before after steps status s known h = λ bytes place told_is. record {
-  only = λ e. absurd (subst (WritesPrediction s steps before after) e h);
-  comes = λ cause. let (tree, tree_is, scenario) = known bytes told_is in absurd (tree_has_no_fault bytes tree place tree_is cause.1);
-}
-
-pub refused_written : (W : Meaning) (told before after : Option (List ℕ)) (steps : ℕ) (status : Status) (s : Scenario) → Knows told s → WritesPrediction s steps before after status → RefusedExactly W told status
-refused_written W told before after steps status s known h = λ bytes code place told_is of. record {
-  only = λ e. absurd (subst (WritesPrediction s steps before after) e h);
-  comes = λ cause. absurd (not_refused bytes s code place (known bytes told_is) cause.1);
-}
-
--- ---- after a fault of loading
-
-pub not_yet_at : (W : Meaning) (status : Status) (c : Command) → IsOne W → W c → c.task ≡ Predict → IsLoadFault status → NotYetExactly W status
-not_yet_at W status c one stands task fault = record {
-  only = λ e. absurd (subst IsLoadFault e fault);
-  comes = λ other. absurd (no_other W c one stands task other);
-}
-
-too_long_of : (W : Meaning) (bytes : List ℕ) (left : Option (List ℕ)) (status : Status) → AreForPredict W → Loads bytes left (Err status) → IsLoadFault status → ExactlyWhere (AreForPredict W × (most_bytes < length bytes)) (Limit TooLong 0 67108865) status
-too_long_of W bytes left ReadFault for h k = record { only = λ e. cc; comes = λ _. inr (inr refl) }
-too_long_of W bytes left Memory for h k = record { only = λ e. cc; comes = λ _. inr (inl refl) }
-too_long_of W bytes left (Limit TooLong step count) for h k = record { only = λ e. (for, h.0); comes = λ _. inl (rw (k.0, k.1) refl) }
-too_long_of W bytes left (Refused NotJson place) for h k = record { only = λ e. cc; comes = λ cause. let many = cause.1 in let few = h.0.0 in absurd (omega (arith, few, many)) }
-too_long_of W bytes left (Refused NotTree place) for h k = record { only = λ e. cc; comes = λ cause. let many = cause.1 in let few = h.0.0 in absurd (omega (arith, few, many)) }
-too_long_of W bytes left (Refused code place) for h k = record { only = λ e. cc; comes = λ cause. let many = cause.1 in let few = h.0.0 in absurd (omega (arith, few, many)) }
-too_long_of W bytes left status for h k = absurd k
-
-pub too_long_at : (W : Meaning) (told left : Option (List ℕ)) (status : Status) (c : Command) → W c → c.task ≡ Predict → ((bytes : List ℕ) → told ≡ Some bytes → Loads bytes left (Err status)) → IsLoadFault status → TooLongExactly W told status
-too_long_at W told left status c stands task loads fault = λ bytes told_is. too_long_of W bytes left status (c, stands, task) (loads bytes told_is) fault
-
--- a fault of loading doesn't come where the bytes are those of a scenario
-pub outside_at : (bytes : List ℕ) (left : Option (List ℕ)) (tree : List Element) (status : Status) → Loads bytes left (Err status) → IsLoadFault status → length bytes ≤ most_bytes → IsTreeOf bytes tree → IsAccepted tree → IsOutside status
-outside_at bytes left tree ReadFault h k few tree_is accepted = inr refl
-outside_at bytes left tree Memory h k few tree_is accepted = inl refl
-outside_at bytes left tree (Limit TooLong step count) h k few tree_is accepted = let many = h.0 in absurd (omega (arith, few, many))
-outside_at bytes left tree (Refused NotJson place) h k few tree_is accepted = absurd (tree_is_json bytes tree tree_is h.1)
-outside_at bytes left tree (Refused NotTree place) h k few tree_is accepted = absurd (tree_has_no_fault bytes tree place tree_is h.1)
-outside_at bytes left tree (Refused code place) h k few tree_is accepted = absurd (not_both bytes tree code place tree_is accepted h.1)
-outside_at bytes left tree status h k few tree_is accepted = absurd k
-
-pub complete_at : (W : Meaning) (told left : Option (List ℕ)) (risen : Type 0) (status : Status) → ((bytes : List ℕ) → told ≡ Some bytes → Loads bytes left (Err status)) → IsLoadFault status → (status ≡ ReadFault → risen) → Completes W told risen status
-complete_at W told left risen status loads fault rose = λ bytes c stands task told_is few tree tree_is accepted within none.
-    elim (outside_at bytes left tree status (loads bytes told_is) fault few tree_is accepted) [
-      | inl memory ↦ inr memory
-      | inr read ↦ absurd (none (rose read))
-    ]
-
--- no completion is due where the words stand for no command
-pub complete_no_command : (W : Meaning) (told : Option (List ℕ)) (risen : Type 0) (status : Status) → AreNoCommand W → Completes W told risen status
-complete_no_command W told risen status nothing = λ bytes c stands task told_is few tree tree_is accepted within none. absurd (nothing c stands)
-
-same_code : (a b : Code) (p q : ℕ) → Refused a p ≡ Refused b q → a ≡ b
-same_code a b p q e = cc
-
-same_place : (a b : Code) (p q : ℕ) → Refused a p ≡ Refused b q → p ≡ q
-same_place a b p q e = cc
-
--- bytes are refused in one way at most
-same_refusal : (bytes : List ℕ) (code reason : Code) (place other : ℕ) → IsRefusedAt bytes code place → IsRefusedAt bytes reason other → Refused reason other ≡ Refused code place
-same_refusal bytes code reason place other (tree, tree_is, refused) (again, again_is, first) =
-    let one = one_refusal bytes again place other code reason again_is (subst (λ x. IsRefused x place code) (one_tree bytes tree again tree_is again_is) refused) first in
-    sym (ap (λ p. Refused code p) one.0 ∙ ap (λ c. Refused c other) one.1)
-
--- the refusal of a loading that answered a status
-refused_of : (W : Meaning) (bytes : List ℕ) (code : Code) (place : ℕ) (left : Option (List ℕ)) (status : Status) → IsOfCheck code → AreForPredict W → Loads bytes left (Err status) → IsLoadFault status
-    → ExactlyWhere (IsRead W bytes × IsRefusedAt bytes code place) (Refused code place) status
-refused_of W bytes code place left ReadFault of for h k = record { only = λ e. cc; comes = λ cause. inr (inr refl) }
-refused_of W bytes code place left Memory of for h k = record { only = λ e. cc; comes = λ cause. inr (inl refl) }
-refused_of W bytes code place left (Limit TooLong step count) of for h k = record { only = λ e. cc; comes = λ cause. let few = cause.0.1 in let many = h.0 in absurd (omega (arith, few, many)) }
-refused_of W bytes code place left (Refused NotJson other) of for h k = record { only = λ e. absurd (subst IsOfCheck (sym (same_code NotJson code other place e)) of); comes = λ cause. absurd (tree_is_json bytes cause.1.0 cause.1.1 h.1) }
-refused_of W bytes code place left (Refused NotTree other) of for h k = record { only = λ e. absurd (subst IsOfCheck (sym (same_code NotTree code other place e)) of); comes = λ cause. absurd (tree_has_no_fault bytes cause.1.0 other cause.1.1 h.1) }
-refused_of W bytes code place left (Refused answered other) of for h k = record {
-  only = λ e. ((for, h.0.0), subst (λ c. IsRefusedAt bytes c place) (same_code answered code other place e) (subst (IsRefusedAt bytes answered) (same_place answered code other place e) h.1));
-  comes = λ cause. inl (same_refusal bytes code answered place other cause.1 h.1);
-}
-refused_of W bytes code place left status of for h k = absurd k
-
-pub refused_at : (W : Meaning) (told left : Option (List ℕ)) (status : Status) (c : Command) → W c → c.task ≡ Predict → ((bytes : List ℕ) → told ≡ Some bytes → Loads bytes left (Err status)) → IsLoadFault status → RefusedExactly W told status
-refused_at W told left status c stands task loads fault = λ bytes code place told_is of. refused_of W bytes code place left status of (c, stands, task) (loads bytes told_is) fault
-
-pub refused_no_command : (W : Meaning) (told : Option (List ℕ)) → AreNoCommand W → RefusedExactly W told BadWords
-refused_no_command W told nothing = λ bytes code place told_is of. record { only = λ e. cc; comes = λ cause. absurd (nothing cause.0.0.0 cause.0.0.1) }
+    go : (told : Option (List ℕ)) → run.told ≡ told → (o : Occupancies) → IsPredicted s c.steps o → can (length (report_of s c.steps o))
+    go told e o predicted =
+        let (b, scenario, input) = may told e in
+        takes c b s (report_of s c.steps o) end.Done for.stands (is_built c for.task)
+        (subst (λ (t : Task). MayBeInput t c run.told b) (sym for.task) (subst (λ (x : Option (List ℕ)). MayBeInput Predict c x b) (sym e) input))
+        scenario
+        (record { passing = passes c for.task s; within = within_limits c for.task s (traffic_limits s c o predicted) })
+        (is_output s c o for.task range lanes for.range predicted)

@@ -9,7 +9,8 @@ use Rattle.spot_terms.specs.declared.status.Which.TheVariants.{TooLong}
 use Rattle.spot_claims.specs.Tree.{Element, IsNoJson, HasFaultAt}
 use Rattle.spot_claims.specs.Profile.{IsRefused}
 use Rattle.spot_claims.specs.Scenario.{IsScenarioOf}
-use Rattle.spot_claims.specs.Answers.{IsRefusedAt, IsOfCheck, most_bytes}
+use Rattle.spot_claims.specs.Answers.{IsRefusedAt, IsOfCheck}
+use Rattle.spot_claims.specs.Stages.{most_bytes}
 
 -- all of the told bytes were read, and they are few enough
 abbrev pub IsReadWhole : List ℕ → Option (List ℕ) → Type 0

@@ -11,7 +11,7 @@ use Rattle.spot_terms.specs.declared.scenario.Scenario.{Scenario}
 use Rattle.spot_terms.specs.declared.status.Status.{Status}
 use Rattle.spot_terms.specs.declared.status.Status.TheVariants.{Open, Limit, WriteFault, Memory}
 use Rattle.spot_terms.specs.declared.status.Which.TheVariants.{TooManyCells, LaneTooWide, TooManyLanePolygons}
-use Rattle.spot_claims.specs.Answers.{most_pairs}
+use Rattle.spot_claims.specs.Stages.{most_pairs}
 use Rattle.participants.specs.Predictions.{HoldsMotions, Occupancies, IsPrediction}
 use Rattle.spot_run.specs.Lines.{prediction_lines}
 

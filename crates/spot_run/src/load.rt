@@ -3,6 +3,7 @@
 ghost use Rattle.std.specs.Prelude.{◌≡◌, ℕ, ◌≤◌, List, Some, IfOk, IfErr, IsErrOf};
 ghost use Rattle.lanelets.specs.Buildable.{AreBuildable};
 ghost use Rattle.spot_terms.specs.Causes.{Rose};
+ghost use Rattle.spot_terms.specs.Ids.{HaveUniqueIds};
 ghost use Rattle.spot_terms.specs.Ranges.{IsInRange};
 ghost use Rattle.spot_claims.specs.Scenario.{IsScenario, IsScenarioOf};
 ghost use Rattle.spot_run.specs.Loads.{Loads, IsLoadFault, HasNone};
@@ -17,6 +18,7 @@ use std::alloc::Global;
 fn scenario_of(alloc: Global, tree: &Tree) -> Result<Scenario, Status>
     ensures scenario { IfOk result (λ s. IsScenario tree.now s) }
     ensures range { IfOk result (λ s. IsInRange s) }
+    ensures ids { IfOk result (λ s. HaveUniqueIds s) }
     ensures lanes { IfOk result (λ s. AreBuildable s.lanelets.entries) }
     ensures none { IfErr result (λ status. HasNone tree.now status) }
 {
@@ -32,6 +34,7 @@ pub fn load<S: Source>(alloc: Global, source: &mut S) -> Result<Scenario, Status
     ensures told { (bytes : List ℕ) → S.left source.old ≡ Some bytes → Loads bytes (S.left source.new) result }
     ensures scenario { IfOk result (λ s. (bytes : List ℕ) × IsScenarioOf bytes s) }
     ensures range { IfOk result (λ s. IsInRange s) }
+    ensures ids { IfOk result (λ s. HaveUniqueIds s) }
     ensures lanes { IfOk result (λ s. AreBuildable s.lanelets.entries) }
     ensures answers { IfErr result (λ status. IsLoadFault status) }
     ensures later { S.faults source.old ≤ S.faults source.new }

@@ -1,14 +1,18 @@
 //! The top call.
 
-ghost use Rattle.std.specs.Prelude.{◌≡◌, ℕ, ◌≤◌, ◌⊎◌, IfOk, IfErr};
+ghost use Rattle.std.specs.Prelude.{◌≡◌, ℕ, ◌≤◌, IfOk, IfErr};
 ghost use Rattle.lanelets.specs.Buildable.{AreBuildable};
 ghost use Rattle.spot_terms.specs.Causes.{Rose};
 ghost use Rattle.spot_terms.specs.Limits.{HasNetwork};
 ghost use Rattle.spot_terms.specs.Ranges.{IsInRange};
+ghost use Rattle.spot_run.specs.RunOf.{run_of};
 ghost use Rattle.spot_run.specs.Writes.{IsPastLimit, IsPredicted, TakesPrediction, WritesPrediction};
 ghost use Rattle.spot_words.specs.Words.{StandsFor};
+ghost use Rattle.spot_claims.specs.Answers.{AreaTooWideExactly, BadWordsExactly, EgoTooFastExactly, IsKnown, LaneTooWideExactly, LateProblemExactly, NoProblemExactly, NotJsonExactly, NotTreeExactly, NotYetExactly, ReadFaultOnly, RefusedExactly, TooLongExactly, TooManyBoxesExactly, TooManyCellsExactly, TooManyLanePolygonsExactly, WriteFaultOnly};
 ghost use Rattle.spot_claims.specs.Headline.{Headline};
-ghost use Rattle.spot_claims.specs.Answers.{AreForPredict, BadWordsExactly, TooLongExactly, NotJsonExactly, NotTreeExactly, RefusedExactly, TooManyCellsExactly, LaneTooWideExactly, TooManyLanePolygonsExactly, NotYetExactly, IsKnown, IsWritten, WritesReport, ReadsSource, Completes, TakesReport};
+ghost use Rattle.spot_claims.specs.Outcomes.{Completes, ReadsSource, TakesOutput, WritesOutput};
+ghost use Rattle.spot_claims.specs.Outputs.{IsWritten};
+ghost use Rattle.spot_claims.specs.Stages.{AreForReading};
 
 use crate::load::load;
 use crate::report::write_prediction;
@@ -86,41 +90,45 @@ pub fn run_spot<S: Source, K: Sink>(
     source: &mut S,
     sink: &mut K,
 ) -> Status
-    // The sink can take the report.
-    requires { TakesReport (StandsFor words.now.items) (S.left source.old) (λ n. K.takes sink.old n) }
+    // The sink can take the output.
+    requires { TakesOutput (StandsFor words.now.items) (S.left source.old) (λ n. K.takes sink.old n) }
 
-    // Each admissible motion of each participant lies in what is printed for it.
-    ensures headline { Headline (StandsFor words.now.items) (S.left source.old) (K.written sink.old) (K.written sink.new) result }
+    // Each admissible motion lies in what is printed for it, or has entered what is occupied.
+    ensures headline { Headline (run_of words.now.items S.Source source.old source.new K.Sink sink.old sink.new result) }
 
-    // What is written is the report, or at a write fault a front of it; else nothing.
-    ensures report { WritesReport (StandsFor words.now.items) (S.left source.old) (K.written sink.old) (K.written sink.new) result }
+    // What is written is the output, or at a write fault a front of it; else nothing.
+    ensures output { WritesOutput (run_of words.now.items S.Source source.old source.new K.Sink sink.old sink.new result) }
     ensures kept { (IsWritten result → ⊥) → sink.new ≡ sink.old }
 
     // The source is read to its end, or not at all.
-    ensures source_read { ReadsSource (StandsFor words.now.items) (S.left source.old) (S.left source.new) result }
-    ensures source_kept { (AreForPredict (StandsFor words.now.items) → ⊥) → source.new ≡ source.old }
+    ensures source_read { ReadsSource (run_of words.now.items S.Source source.old source.new K.Sink sink.old sink.new result) }
+    ensures source_kept { (AreForReading (run_of words.now.items S.Source source.old source.new K.Sink sink.old sink.new result) → ⊥) → source.new ≡ source.old }
 
     // The counts of faults never fall.
     ensures source_later { S.faults source.old ≤ S.faults source.new }
     ensures sink_later { K.faults sink.old ≤ K.faults sink.new }
 
     // When each answer comes.
-    ensures known { IsKnown result }
-    ensures bad_words { BadWordsExactly (StandsFor words.now.items) result }
-    ensures not_yet { NotYetExactly (StandsFor words.now.items) result }
-    ensures read_fault { result ≡ Status.ReadFault → Rose (S.faults source.old) (S.faults source.new) }
-    ensures too_long { TooLongExactly (StandsFor words.now.items) (S.left source.old) result }
-    ensures not_json { NotJsonExactly (StandsFor words.now.items) (S.left source.old) result }
-    ensures not_tree { NotTreeExactly (StandsFor words.now.items) (S.left source.old) result }
-    ensures refused { RefusedExactly (StandsFor words.now.items) (S.left source.old) result }
-    ensures too_many_cells { TooManyCellsExactly (StandsFor words.now.items) (S.left source.old) result }
-    ensures lane_too_wide { LaneTooWideExactly (StandsFor words.now.items) (S.left source.old) result }
-    ensures too_many_lane_polygons { TooManyLanePolygonsExactly (StandsFor words.now.items) (S.left source.old) result }
-    ensures write_fault { result ≡ Status.WriteFault → Rose (K.faults sink.old) (K.faults sink.new) }
+    ensures known { IsKnown (run_of words.now.items S.Source source.old source.new K.Sink sink.old sink.new result) }
+    ensures bad_words { BadWordsExactly (run_of words.now.items S.Source source.old source.new K.Sink sink.old sink.new result) }
+    ensures not_yet { NotYetExactly (run_of words.now.items S.Source source.old source.new K.Sink sink.old sink.new result) }
+    ensures read_fault { ReadFaultOnly (run_of words.now.items S.Source source.old source.new K.Sink sink.old sink.new result) }
+    ensures too_long { TooLongExactly (run_of words.now.items S.Source source.old source.new K.Sink sink.old sink.new result) }
+    ensures not_json { NotJsonExactly (run_of words.now.items S.Source source.old source.new K.Sink sink.old sink.new result) }
+    ensures not_tree { NotTreeExactly (run_of words.now.items S.Source source.old source.new K.Sink sink.old sink.new result) }
+    ensures refused { RefusedExactly (run_of words.now.items S.Source source.old source.new K.Sink sink.old sink.new result) }
+    ensures no_problem { NoProblemExactly (run_of words.now.items S.Source source.old source.new K.Sink sink.old sink.new result) }
+    ensures late_problem { LateProblemExactly (run_of words.now.items S.Source source.old source.new K.Sink sink.old sink.new result) }
+    ensures ego_too_fast { EgoTooFastExactly (run_of words.now.items S.Source source.old source.new K.Sink sink.old sink.new result) }
+    ensures too_many_cells { TooManyCellsExactly (run_of words.now.items S.Source source.old source.new K.Sink sink.old sink.new result) }
+    ensures lane_too_wide { LaneTooWideExactly (run_of words.now.items S.Source source.old source.new K.Sink sink.old sink.new result) }
+    ensures too_many_lane_polygons { TooManyLanePolygonsExactly (run_of words.now.items S.Source source.old source.new K.Sink sink.old sink.new result) }
+    ensures area_too_wide { AreaTooWideExactly (run_of words.now.items S.Source source.old source.new K.Sink sink.old sink.new result) }
+    ensures too_many_boxes { TooManyBoxesExactly (run_of words.now.items S.Source source.old source.new K.Sink sink.old sink.new result) }
+    ensures write_fault { WriteFaultOnly (run_of words.now.items S.Source source.old source.new K.Sink sink.old sink.new result) }
 
-    // Where nothing fails, the report is written.
-    ensures complete { Completes (StandsFor words.now.items) (S.left source.old)
-        (Rose (S.faults source.old) (S.faults source.new) ⊎ Rose (K.faults sink.old) (K.faults sink.new)) result }
+    // Where nothing fails, the output is written.
+    ensures complete { Completes (run_of words.now.items S.Source source.old source.new K.Sink sink.old sink.new result) }
 {
     let command = match read_words(alloc, words) {
         Ok(Some(command)) => command,

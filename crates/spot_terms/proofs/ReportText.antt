@@ -1,20 +1,19 @@
--- Two reports with equal texts are equal: words are told apart by the blank behind each, and a line is read back from
+-- Lists of lines with equal texts are equal: words are told apart by the blank behind each, and a line is read back from
 -- its words.
 use Rattle.std.proofs.Common.{◌≡◌, ℕ, zero, suc, ◌+◌, ◌<◌, ◌≤◌, List, [], ◌∷◌, ◌++◌, map, length, drop, Bool, true, false, ℤ, pos, negsuc, neg_ℤ, refl, sym, ◌∙◌, ap, subst, arith, append_assoc, append-nil}
-use Rattle.std.specs.Prelude.{if◌then◌else◌, ◌==◌, codes, decimal, flat_map, FitsSigned, slice_index_or}
-use Rattle.std.specs.Int.{w64}
+use Rattle.std.specs.Prelude.{if◌then◌else◌, ◌==◌, codes, flat_map, slice_index_or}
 use Rattle.std.specs.List.{AllByRecursion}
 use Rattle.std.specs.Str.{bytes_eq}
 use Rattle.std.specs.Char.{digit_value}
 use Rattle.std.specs.Str.Parse.{digits_value, AllDigits}
-use Rattle.std.proofs.lemmas.Fmt.{decimal_is_IsNumeral}
 use Rattle.std.proofs.lemmas.Bool.Decides.{nat_tests}
+use Rattle.spot_terms.proofs.Numerals.{numeral_back, numeral_digits, numeral_some}
 use Rattle.spot_terms.specs.declared.plain.Pt.{Pt}
 use Rattle.spot_terms.specs.declared.plain.VBox.{VBox}
 use Rattle.spot_terms.specs.declared.lines.Mode.{Mode}
 use Rattle.spot_terms.specs.declared.lines.Mode.TheVariants.{Predict, Area, Replay}
 use Rattle.spot_terms.specs.declared.lines.End.TheVariants.{Done, Open, Empty}
-use Rattle.spot_terms.specs.Report.{Line, Text, spaced, whole, line_text, words_of, report_text, box_words, pt_words, corner_words, mode_word, kind_word, FitsLine, FitsPt, FitsBox, FitsCorners, Nat64, TextsTellReports, head_line, time_line, mover_line, late_line, fixed_line, lane_line, occ_line, ego_line, disc_line, set_line, count_line, last_line}
+use Rattle.spot_terms.specs.Report.{Line, Text, spaced, whole, line_text, words_of, report_text, box_words, pt_words, corner_words, mode_word, kind_word, numeral, TextsTellReports, head_line, time_line, mover_line, late_line, fixed_line, lane_line, occ_line, ego_line, disc_line, set_line, count_line, last_line}
 
 -- ---- words
 
@@ -43,26 +42,26 @@ clean_digits : (ds : Text) → AllDigits 10 ds → Clean ds
 clean_digits [] h = tt
 clean_digits (c ∷ cs) h = (digit_above c h.0, clean_digits cs h.1)
 
-clean_decimal : (n : ℕ) → Nat64 n → Clean (decimal n)
-clean_decimal n h = clean_digits (decimal n) (decimal_is_IsNumeral n h).0.1
+clean_numeral : (n : ℕ) → Clean (numeral n)
+clean_numeral n = clean_digits (numeral n) (numeral_digits n)
 
-clean_whole : (z : ℤ) → FitsSigned w64 z → Clean (whole z)
-clean_whole (pos n) f = clean_decimal n (omega (arith, f.sfits))
-clean_whole (negsuc n) f = (omega arith, clean_decimal (suc n) (omega (arith, f.sfits)))
+clean_whole : (z : ℤ) → Clean (whole z)
+clean_whole (pos n) = clean_numeral n
+clean_whole (negsuc n) = (omega arith, clean_numeral (suc n))
 
-clean_wholes : (ns : List ℤ) → AllByRecursion (FitsSigned w64) ns → AllClean (map whole ns)
-clean_wholes [] f = tt
-clean_wholes (n ∷ ns) f = (clean_whole n f.0, clean_wholes ns f.1)
+clean_wholes : (ns : List ℤ) → AllClean (map whole ns)
+clean_wholes [] = tt
+clean_wholes (n ∷ ns) = (clean_whole n, clean_wholes ns)
 
-clean_pts : (ps : List Pt) (rest : List Text) → AllByRecursion FitsPt ps → AllClean rest → AllClean (flat_map pt_words ps ++ rest)
-clean_pts [] rest f c = c
-clean_pts (p ∷ ps) rest f c = (clean_whole p.x f.0.0, (clean_whole p.y f.0.1, clean_pts ps rest f.1 c))
+clean_pts : (ps : List Pt) (rest : List Text) → AllClean rest → AllClean (flat_map pt_words ps ++ rest)
+clean_pts [] rest c = c
+clean_pts (p ∷ ps) rest c = (clean_whole p.x, (clean_whole p.y, clean_pts ps rest c))
 
-clean_corners : (ps : List Pt) (rest : List Text) → FitsCorners ps → AllClean rest → AllClean (corner_words ps ++ rest)
-clean_corners ps rest f c = (clean_decimal (length ps) f.0, clean_pts ps rest f.1 c)
+clean_corners : (ps : List Pt) (rest : List Text) → AllClean rest → AllClean (corner_words ps ++ rest)
+clean_corners ps rest c = (clean_numeral (length ps), clean_pts ps rest c)
 
-clean_box : (b : VBox) → FitsBox b → AllClean (box_words b)
-clean_box b f = (clean_whole b.xlo f.0, (clean_whole b.xhi f.1, (clean_whole b.ylo f.2, (clean_whole b.yhi f.3, tt))))
+clean_box : (b : VBox) → AllClean (box_words b)
+clean_box b = (clean_whole b.xlo, (clean_whole b.xhi, (clean_whole b.ylo, (clean_whole b.yhi, tt))))
 
 clean_mode : (m : Mode) → Clean (mode_word m)
 clean_mode Predict = omega arith
@@ -74,24 +73,24 @@ clean_kind true = omega arith
 clean_kind false = omega arith
 
 -- the words of a line have no byte up to the blank
-clean_line : (l : Line) → FitsLine l → AllClean (words_of l)
-clean_line (head_line m) f = (omega arith, (omega arith, (clean_mode m, tt)))
-clean_line (time_line k n) f = (omega arith, (clean_decimal k f.0, (clean_decimal n f.1, tt)))
-clean_line (mover_line m) f = (
+clean_line : (l : Line) → AllClean (words_of l)
+clean_line (head_line m) = (omega arith, (omega arith, (clean_mode m, tt)))
+clean_line (time_line k n) = (omega arith, (clean_numeral k, (clean_numeral n, tt)))
+clean_line (mover_line m) = (
   omega arith,
   (
-    clean_decimal m.id f.0,
+    clean_numeral m.id,
     (
       clean_kind m.lane,
       (
-        clean_whole m.a f.1,
+        clean_whole m.a,
         (
-          clean_whole m.v f.2,
+          clean_whole m.v,
           (
-            clean_decimal m.s f.3,
+            clean_numeral m.s,
             (
-              clean_decimal m.r f.4,
-              (clean_whole m.p.x f.5.0, (clean_whole m.p.y f.5.1, clean_box m.b f.6)),
+              clean_numeral m.r,
+              (clean_whole m.p.x, (clean_whole m.p.y, clean_box m.b)),
             ),
           ),
         ),
@@ -99,62 +98,62 @@ clean_line (mover_line m) f = (
     ),
   ),
 )
-clean_line (late_line id t) f = (omega arith, (clean_decimal id f.0, (clean_decimal t f.1, tt)))
-clean_line (fixed_line id ns) f = (omega arith, (clean_decimal id f.0, clean_wholes ns f.1.1))
-clean_line (lane_line id cell first ps) f = (
+clean_line (late_line id t) = (omega arith, (clean_numeral id, (clean_numeral t, tt)))
+clean_line (fixed_line id ns) = (omega arith, (clean_numeral id, clean_wholes ns))
+clean_line (lane_line id cell first ps) = (
   omega arith,
   (
-    clean_decimal id f.0,
+    clean_numeral id,
     (
-      clean_decimal cell f.1,
+      clean_numeral cell,
       (
-        clean_decimal first f.2,
-        subst AllClean (append-nil (corner_words ps)) (clean_corners ps [] f.3 tt),
+        clean_numeral first,
+        subst AllClean (append-nil (corner_words ps)) (clean_corners ps [] tt),
       ),
     ),
   ),
 )
-clean_line (occ_line id i ns) f = (omega arith, (clean_decimal id f.0, (clean_decimal i f.1, clean_wholes ns f.2.1)))
-clean_line (ego_line e) f = (
+clean_line (occ_line id i ns) = (omega arith, (clean_numeral id, (clean_numeral i, clean_wholes ns)))
+clean_line (ego_line e) = (
   omega arith,
   (
-    clean_decimal e.problem f.0,
+    clean_numeral e.problem,
     (
-      clean_whole e.a f.1,
+      clean_whole e.a,
       (
-        clean_whole e.v f.2,
+        clean_whole e.v,
         (
-          clean_whole e.w f.3,
+          clean_whole e.w,
           (
-            clean_whole e.g f.4,
-            (clean_whole e.p.x f.5.0, (clean_whole e.p.y f.5.1, clean_box e.b f.6)),
+            clean_whole e.g,
+            (clean_whole e.p.x, (clean_whole e.p.y, clean_box e.b)),
           ),
         ),
       ),
     ),
   ),
 )
-clean_line (disc_line step id p r) f = (omega arith, (clean_decimal step f.0, (clean_decimal id f.1, (clean_whole p.x f.2.0, (clean_whole p.y f.2.1, (clean_decimal r f.3, tt))))))
-clean_line (set_line step b) f = (
+clean_line (disc_line step id p r) = (omega arith, (clean_numeral step, (clean_numeral id, (clean_whole p.x, (clean_whole p.y, (clean_numeral r, tt))))))
+clean_line (set_line step b) = (
   omega arith,
   (
-    clean_decimal step f.0,
+    clean_numeral step,
     (
-      clean_whole b.col f.1,
+      clean_whole b.col,
       (
-        clean_whole b.row f.2,
+        clean_whole b.row,
         (
           omega arith,
-          clean_corners b.x (codes "y" ∷ corner_words b.y) f.3 (omega arith, subst AllClean (append-nil (corner_words b.y)) (clean_corners b.y [] f.4 tt)),
+          clean_corners b.x (codes "y" ∷ corner_words b.y) (omega arith, subst AllClean (append-nil (corner_words b.y)) (clean_corners b.y [] tt)),
         ),
       ),
     ),
   ),
 )
-clean_line (count_line step n) f = (omega arith, (clean_decimal step f.0, (clean_decimal n f.1, tt)))
-clean_line (last_line Done) f = (omega arith, tt)
-clean_line (last_line Open) f = (omega arith, tt)
-clean_line (last_line (Empty i)) f = (omega arith, (clean_decimal i f, tt))
+clean_line (count_line step n) = (omega arith, (clean_numeral step, (clean_numeral n, tt)))
+clean_line (last_line Done) = (omega arith, tt)
+clean_line (last_line Open) = (omega arith, tt)
+clean_line (last_line (Empty i)) = (omega arith, (clean_numeral i, tt))
 
 -- ---- lines
 
@@ -247,9 +246,9 @@ line_in (w ∷ ws) =
     else if bytes_eq w (codes "open") then last_line Open
     else last_line (Empty (nat_in (word ws 0)))
 
-nat_back : (n : ℕ) → Nat64 n → nat_in (decimal n) ≡ n
+nat_back : (n : ℕ) → nat_in (numeral n) ≡ n
 unfolding nat_in
-nat_back n h = (decimal_is_IsNumeral n h).1
+nat_back n = numeral_back n
 
 -- digits are no minus
 not_minus : (c : ℕ) → digit_value c < 10 → (c == 45) ≡ false
@@ -260,30 +259,28 @@ unfolding int_in
 no_minus [] h a = absurd (omega (arith, h))
 no_minus (c ∷ cs) h a = rw (not_minus c a.0) refl
 
-int_back : (z : ℤ) → FitsSigned w64 z → int_in (whole z) ≡ z
+int_back : (z : ℤ) → int_in (whole z) ≡ z
 unfolding int_in
-int_back (pos n) f = let h : Nat64 n = omega (arith, f.sfits) in
-    let d = decimal_is_IsNumeral n h in
-    no_minus (decimal n) d.0.0 d.0.1 ∙ ap pos d.1
-int_back (negsuc n) f = let h : Nat64 (suc n) = omega (arith, f.sfits) in ap (λ m. neg_ℤ (pos m)) (decimal_is_IsNumeral (suc n) h).1
+int_back (pos n) = no_minus (numeral n) (numeral_some n) (numeral_digits n) ∙ ap pos (numeral_back n)
+int_back (negsuc n) = ap (λ m. neg_ℤ (pos m)) (numeral_back (suc n))
 
-ints_back : (ns : List ℤ) → AllByRecursion (FitsSigned w64) ns → map int_in (map whole ns) ≡ ns
-ints_back [] f = refl
-ints_back (n ∷ ns) f = let a : int_in (whole n) ≡ n = int_back n f.0 in let b : map int_in (map whole ns) ≡ ns = ints_back ns f.1 in cc
+ints_back : (ns : List ℤ) → map int_in (map whole ns) ≡ ns
+ints_back [] = refl
+ints_back (n ∷ ns) = let a : int_in (whole n) ≡ n = int_back n in let b : map int_in (map whole ns) ≡ ns = ints_back ns in cc
 
-pt_back : (p : Pt) → FitsPt p → pt_in (whole p.x) (whole p.y) ≡ p
+pt_back : (p : Pt) → pt_in (whole p.x) (whole p.y) ≡ p
 unfolding pt_in
-pt_back p f = let a : int_in (whole p.x) ≡ p.x = int_back p.x f.0 in let b : int_in (whole p.y) ≡ p.y = int_back p.y f.1 in simp (a, b)
+pt_back p = let a : int_in (whole p.x) ≡ p.x = int_back p.x in let b : int_in (whole p.y) ≡ p.y = int_back p.y in simp (a, b)
 
-box_back : (b : VBox) (ws : List Text) (k : ℕ) → FitsBox b → word ws k ≡ whole b.xlo → word ws (k + 1) ≡ whole b.xhi → word ws (k + 2) ≡ whole b.ylo → word ws (k + 3) ≡ whole b.yhi → box_in ws k ≡ b
+box_back : (b : VBox) (ws : List Text) (k : ℕ) → word ws k ≡ whole b.xlo → word ws (k + 1) ≡ whole b.xhi → word ws (k + 2) ≡ whole b.ylo → word ws (k + 3) ≡ whole b.yhi → box_in ws k ≡ b
 unfolding box_in
-box_back b ws k f e0 e1 e2 e3 = simp (e0, e1, e2, e3, int_back b.xlo f.0, int_back b.xhi f.1, int_back b.ylo f.2, int_back b.yhi f.3)
+box_back b ws k e0 e1 e2 e3 = simp (e0, e1, e2, e3, int_back b.xlo, int_back b.xhi, int_back b.ylo, int_back b.yhi)
 
-pts_back : (ps : List Pt) (rest : List Text) → AllByRecursion FitsPt ps → pts_in (length ps) (flat_map pt_words ps ++ rest) ≡ (ps, rest)
+pts_back : (ps : List Pt) (rest : List Text) → pts_in (length ps) (flat_map pt_words ps ++ rest) ≡ (ps, rest)
 unfolding pts_in
-pts_back [] rest f = refl
-pts_back (p ∷ ps) rest f = let a : pt_in (whole p.x) (whole p.y) ≡ p = pt_back p f.0 in
-    let b : pts_in (length ps) (flat_map pt_words ps ++ rest) ≡ (ps, rest) = pts_back ps rest f.1 in simp (a, b)
+pts_back [] rest = refl
+pts_back (p ∷ ps) rest = let a : pt_in (whole p.x) (whole p.y) ≡ p = pt_back p in
+    let b : pts_in (length ps) (flat_map pt_words ps ++ rest) ≡ (ps, rest) = pts_back ps rest in simp (a, b)
 
 mode_back : (m : Mode) → mode_in (mode_word m) ≡ m
 unfolding mode_in
@@ -295,26 +292,26 @@ kind_back : (b : Bool) → bytes_eq (kind_word b) (codes "lane") ≡ b
 kind_back true = refl
 kind_back false = refl
 
-pts_all : (ps : List Pt) → AllByRecursion FitsPt ps → pts_in (length ps) (flat_map pt_words ps) ≡ (ps, [])
-pts_all ps f = rw (append-nil (flat_map pt_words ps)) at (pts_back ps [] f)
+pts_all : (ps : List Pt) → pts_in (length ps) (flat_map pt_words ps) ≡ (ps, [])
+pts_all ps = rw (append-nil (flat_map pt_words ps)) at (pts_back ps [])
 
 -- each line is read back
-line_back : (l : Line) → FitsLine l → line_in (words_of l) ≡ l
+line_back : (l : Line) → line_in (words_of l) ≡ l
 unfolding line_in word box_in
-line_back (head_line m) f = ap head_line (mode_back m)
-line_back (time_line k n) f = simp (nat_back k f.0, nat_back n f.1)
-line_back (mover_line m) f = simp (nat_back m.id f.0, kind_back m.lane, int_back m.a f.1, int_back m.v f.2, nat_back m.s f.3, nat_back m.r f.4, pt_back m.p f.5, box_back m.b (decimal m.id ∷ kind_word m.lane ∷ whole m.a ∷ whole m.v ∷ decimal m.s ∷ decimal m.r ∷ whole m.p.x ∷ whole m.p.y ∷ box_words m.b) 8 f.6 refl refl refl refl)
-line_back (late_line id t) f = simp (nat_back id f.0, nat_back t f.1)
-line_back (fixed_line id ns) f = simp (nat_back id f.0, ints_back ns f.1.1)
-line_back (lane_line id cell first ps) f = simp (nat_back id f.0, nat_back cell f.1, nat_back first f.2, nat_back (length ps) f.3.0, pts_all ps f.3.1)
-line_back (occ_line id i ns) f = simp (nat_back id f.0, nat_back i f.1, ints_back ns f.2.1)
-line_back (ego_line e) f = simp (nat_back e.problem f.0, int_back e.a f.1, int_back e.v f.2, int_back e.w f.3, int_back e.g f.4, pt_back e.p f.5, box_back e.b (decimal e.problem ∷ whole e.a ∷ whole e.v ∷ whole e.w ∷ whole e.g ∷ whole e.p.x ∷ whole e.p.y ∷ box_words e.b) 7 f.6 refl refl refl refl)
-line_back (disc_line step id p r) f = simp (nat_back step f.0, nat_back id f.1, pt_back p f.2, nat_back r f.3)
-line_back (set_line step b) f = simp (nat_back step f.0, int_back b.col f.1, int_back b.row f.2, nat_back (length b.x) f.3.0, pts_back b.x (codes "y" ∷ corner_words b.y) f.3.1, nat_back (length b.y) f.4.0, pts_all b.y f.4.1)
-line_back (count_line step n) f = simp (nat_back step f.0, nat_back n f.1)
-line_back (last_line Done) f = refl
-line_back (last_line Open) f = refl
-line_back (last_line (Empty i)) f = simp (nat_back i f)
+line_back (head_line m) = ap head_line (mode_back m)
+line_back (time_line k n) = simp (nat_back k, nat_back n)
+line_back (mover_line m) = simp (nat_back m.id, kind_back m.lane, int_back m.a, int_back m.v, nat_back m.s, nat_back m.r, pt_back m.p, box_back m.b (numeral m.id ∷ kind_word m.lane ∷ whole m.a ∷ whole m.v ∷ numeral m.s ∷ numeral m.r ∷ whole m.p.x ∷ whole m.p.y ∷ box_words m.b) 8 refl refl refl refl)
+line_back (late_line id t) = simp (nat_back id, nat_back t)
+line_back (fixed_line id ns) = simp (nat_back id, ints_back ns)
+line_back (lane_line id cell first ps) = simp (nat_back id, nat_back cell, nat_back first, nat_back (length ps), pts_all ps)
+line_back (occ_line id i ns) = simp (nat_back id, nat_back i, ints_back ns)
+line_back (ego_line e) = simp (nat_back e.problem, int_back e.a, int_back e.v, int_back e.w, int_back e.g, pt_back e.p, box_back e.b (numeral e.problem ∷ whole e.a ∷ whole e.v ∷ whole e.w ∷ whole e.g ∷ whole e.p.x ∷ whole e.p.y ∷ box_words e.b) 7 refl refl refl refl)
+line_back (disc_line step id p r) = simp (nat_back step, nat_back id, pt_back p, nat_back r)
+line_back (set_line step b) = simp (nat_back step, int_back b.col, int_back b.row, nat_back (length b.x), pts_back b.x (codes "y" ∷ corner_words b.y), nat_back (length b.y), pts_all b.y)
+line_back (count_line step n) = simp (nat_back step, nat_back n)
+line_back (last_line Done) = refl
+line_back (last_line Open) = refl
+line_back (last_line (Empty i)) = simp (nat_back i)
 
 -- a line has a first word
 first_word : (l : Line) → (w : Text) × (ws : List Text) × (words_of l ≡ w ∷ ws)
@@ -342,22 +339,22 @@ spaced_nonempty (c ∷ w) (x ∷ ws) r e = cc
 line_nonempty : (l : Line) (r : Text) → line_text l ++ r ≡ [] → ⊥
 line_nonempty l r e = let k = first_word l in spaced_nonempty k.0 k.1 r (rw k.2 at e)
 
-line_tells : (l m : Line) (r s : Text) → FitsLine l → FitsLine m → line_text l ++ r ≡ line_text m ++ s → (l ≡ m) × (r ≡ s)
-line_tells l m r s f g e =
+line_tells : (l m : Line) (r s : Text) → line_text l ++ r ≡ line_text m ++ s → (l ≡ m) × (r ≡ s)
+line_tells l m r s e =
     let j = first_word l in
     let k = first_word m in
-    let cj : AllClean (j.0 ∷ j.1) = rw j.2 at (clean_line l f) in
-    let ck : AllClean (k.0 ∷ k.1) = rw k.2 at (clean_line m g) in
+    let cj : AllClean (j.0 ∷ j.1) = rw j.2 at (clean_line l) in
+    let ck : AllClean (k.0 ∷ k.1) = rw k.2 at (clean_line m) in
     let both : (◌≡◌ {A = List Text} (j.0 ∷ j.1) (k.0 ∷ k.1)) × (r ≡ s) = split_line j.0 k.0 j.1 k.1 r s cj.0 ck.0 cj.1 ck.1 (rw (j.2, k.2) at e) in
-    (sym (line_back l f) ∙ ap line_in (j.2 ∙ both.0 ∙ sym k.2) ∙ line_back m g, both.1)
+    (sym (line_back l) ∙ ap line_in (j.2 ∙ both.0 ∙ sym k.2) ∙ line_back m, both.1)
 
 pub texts_tell : TextsTellReports
 unfolding report_text
-texts_tell [] [] f g e = refl
-texts_tell [] (y ∷ ys) f g e = absurd (line_nonempty y (flat_map line_text ys) (sym e))
-texts_tell (x ∷ xs) [] f g e = absurd (line_nonempty x (flat_map line_text xs) e)
-texts_tell (x ∷ xs) (y ∷ ys) f g e =
-    let k : (x ≡ y) × (flat_map line_text xs ≡ flat_map line_text ys) = line_tells x y (flat_map line_text xs) (flat_map line_text ys) f.0 g.0 e in
+texts_tell [] [] e = refl
+texts_tell [] (y ∷ ys) e = absurd (line_nonempty y (flat_map line_text ys) (sym e))
+texts_tell (x ∷ xs) [] e = absurd (line_nonempty x (flat_map line_text xs) e)
+texts_tell (x ∷ xs) (y ∷ ys) e =
+    let k : (x ≡ y) × (flat_map line_text xs ≡ flat_map line_text ys) = line_tells x y (flat_map line_text xs) (flat_map line_text ys) e in
     let a : x ≡ y = k.0 in
-    let b : xs ≡ ys = texts_tell xs ys f.1 g.1 k.1 in
+    let b : xs ≡ ys = texts_tell xs ys k.1 in
     cc

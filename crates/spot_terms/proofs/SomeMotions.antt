@@ -1,18 +1,17 @@
 -- Motions by their values.
-use Rattle.std.proofs.Common.{◌≡◌, ◌⊎◌, inl, inr, ℕ, zero, suc, ◌+◌, ◌*◌, ◌≤◌, ◌<◌, arith, refl, subst, List, [], ◌∷◌, length, sum}
+use Rattle.std.proofs.Common.{◌≡◌, inl, inr, ℕ, zero, suc, ◌+◌, arith, refl, subst, List, [], ◌∷◌, length}
 use Rattle.std.proofs.lemmas.Int.{ints}
-use Rattle.std.specs.Prelude.{ℤ, pos, neg_ℤ, nat_abs, ◌+ℤ◌, ◌-ℤ◌, ◌*ℤ◌, Some, slice_get, ◌≤ℤ◌}
-use Rattle.spot_terms.specs.Bodies.{InDisc}
-use Rattle.spot_terms.specs.Cells.{Lane, NetCell, cells, corners_of, part_count}
+use Rattle.std.specs.Prelude.{ℤ, pos, ◌+ℤ◌, ◌-ℤ◌, Some, slice_get}
+use Rattle.spot_terms.specs.Cells.{NetCell, cells, corners_of, part_count}
 use Rattle.spot_terms.specs.EgoMotions.{EgoTick, EgoSpeedAtMost, IsEgoMotion}
-use Rattle.spot_terms.specs.Hull.{FractionPt, whole_pt, InHullAt, weighted}
-use Rattle.spot_terms.specs.LaneMotions.{Entry, Trip, RoadState, InCell, OnEntry, IsLaneMotion}
+use Rattle.spot_terms.specs.Hull.{FractionPt, whole_pt, InHullAt}
+use Rattle.spot_terms.specs.LaneMotions.{InCell, OnEntry}
 use Rattle.spot_terms.specs.LanePolygons.{add_pt}
 use Rattle.spot_terms.specs.Lists.{numbers_below}
 use Rattle.spot_terms.specs.Motions.{State, Steps, Ticks, PlanarTick, SpeedAtMost, InBox, IsPlanarMotion}
 use Rattle.spot_terms.specs.Network.{IsAhead, IsSide, within}
 use Rattle.spot_terms.specs.Reach.{interval_numbers, interval_number, greatest_reach, reach_number, speed_number, box_number, disc_number, InOctagon}
-use Rattle.spot_terms.specs.Whole.{square, Within, root_ceiling, root_floor}
+use Rattle.spot_terms.specs.Whole.{root_ceiling, root_floor}
 use Rattle.spot_terms.specs.declared.network.Origin.TheVariants.{Part}
 use Rattle.spot_terms.specs.declared.plain.Pt.{Pt}
 use Rattle.spot_terms.specs.declared.plain.VBox.{VBox}

@@ -1,6 +1,6 @@
 -- The polynomial cosine and sine of an angle in µrad, the start velocities of a speed and an angle, and the box that
 -- is computed for them.
-use Rattle.std.specs.Prelude.{◌≡◌, ℕ, zero, suc, ◌+◌, ◌-◌, ◌*◌, ◌/◌, ◌%◌, ◌^◌, ◌==◌, ◌≤◌, if◌then◌else◌, ℤ, pos, neg_ℤ, ◌+ℤ◌, ◌-ℤ◌, ◌*ℤ◌, int_lt, nat_abs, nat_le, List, [], ◌∷◌, map, true, false, refl}
+use Rattle.std.specs.Prelude.{◌≡◌, ℕ, zero, suc, ◌+◌, ◌-◌, ◌*◌, ◌/◌, ◌%◌, ◌^◌, ◌==◌, ◌≤◌, if◌then◌else◌, ℤ, pos, neg_ℤ, ◌+ℤ◌, ◌-ℤ◌, ◌*ℤ◌, int_lt, nat_abs, nat_le, [], ◌∷◌, map, true, false, refl}
 use Rattle.std.specs.Int.{int_pow}
 use Rattle.spot_terms.specs.Whole.{square, quotient_floor, quotient_ceiling}
 use Rattle.spot_terms.specs.declared.plain.VBox.{VBox}

@@ -33,22 +33,28 @@ abbrev pub metres_at : ℕ → ℕ → Pair
 metres_at x y = (pos (1_000_000 * x), pos (1_000_000 * y))
 
 abbrev pub right_lane : Lane
-right_lane = (1, record {
-  left = metres_at 0 4 ∷ metres_at 2 4 ∷ metres_at 4 4 ∷ [];
-  right = metres_at 0 0 ∷ metres_at 2 0 ∷ metres_at 4 0 ∷ [];
-  successors = [];
-  predecessors = [];
-  sides = 2 ∷ [];
-})
+right_lane = (
+  1,
+  record {
+    left = metres_at 0 4 ∷ metres_at 2 4 ∷ metres_at 4 4 ∷ [];
+    right = metres_at 0 0 ∷ metres_at 2 0 ∷ metres_at 4 0 ∷ [];
+    successors = [];
+    predecessors = [];
+    sides = 2 ∷ [];
+  },
+)
 
 abbrev pub left_lane : Lane
-left_lane = (2, record {
-  left = metres_at 0 8 ∷ metres_at 2 8 ∷ metres_at 4 8 ∷ [];
-  right = metres_at 0 4 ∷ metres_at 2 4 ∷ metres_at 4 4 ∷ [];
-  successors = [];
-  predecessors = [];
-  sides = 1 ∷ [];
-})
+left_lane = (
+  2,
+  record {
+    left = metres_at 0 8 ∷ metres_at 2 8 ∷ metres_at 4 8 ∷ [];
+    right = metres_at 0 4 ∷ metres_at 2 4 ∷ metres_at 4 4 ∷ [];
+    successors = [];
+    predecessors = [];
+    sides = 1 ∷ [];
+  },
+)
 
 -- both are 4 m long, along x, and 4 m wide. Cells 0 and 1 are the halves of the right one, 2 and 3 those of the left one
 abbrev pub two_lanes : List Lane

@@ -1,94 +1,44 @@
-// Lists that contracts see as the list of their items.
+//! Lists that contracts see as the list of their items.
+
 ghost use Rattle.std.specs.Prelude.{◌≡◌};
 
 use std::marker::Model;
 
-/// A list of points of a bound.
+/// A list that is made once and then read.
 #[derive(Drop)]
-pub struct PtList {
-    items: Vec<(i64, i64)>,
+pub struct Items<T: Drop> {
+    items: Vec<T>,
 }
 
-impl Model for PtList {
-    ghost use Rattle.std.specs.Prelude.{List, ℤ};
+impl<T: Drop> Model for Items<T> {
+    ghost use Rattle.std.specs.Prelude.{List};
 
-    ghost Value = { List (ℤ × ℤ) };
+    ghost Value = { List T };
 
     ghost view = { λ l. l.items.items };
 }
 
-impl PtList {
+impl<T: Drop> Items<T> {
     /// The list of these items.
-    pub fn from_vec(items: Vec<(i64, i64)>) -> Self
+    pub fn from_vec(items: Vec<T>) -> Self
         ensures { result ≡ items.items }
     {
-        PtList { items }
+        Items { items }
     }
 
     /// The items, in order.
-    pub fn list(&self) -> &[(i64, i64)]
+    pub fn list(&self) -> &[T]
         ensures { result.now ≡ self.now }
     {
         &self.items
     }
 }
+
+/// A list of points of a bound.
+pub type PtList = Items<(i64, i64)>;
 
 /// A list of ids.
-#[derive(Drop)]
-pub struct IdList {
-    items: Vec<u32>,
-}
-
-impl Model for IdList {
-    ghost use Rattle.std.specs.Prelude.{List, ℕ};
-
-    ghost Value = { List ℕ };
-
-    ghost view = { λ l. l.items.items };
-}
-
-impl IdList {
-    /// The list of these items.
-    pub fn from_vec(items: Vec<u32>) -> Self
-        ensures { result ≡ items.items }
-    {
-        IdList { items }
-    }
-
-    /// The items, in order.
-    pub fn list(&self) -> &[u32]
-        ensures { result.now ≡ self.now }
-    {
-        &self.items
-    }
-}
+pub type IdList = Items<u32>;
 
 /// A list of recorded states: step, x and y.
-#[derive(Drop)]
-pub struct StateList {
-    items: Vec<(u32, i64, i64)>,
-}
-
-impl Model for StateList {
-    ghost use Rattle.std.specs.Prelude.{List, ℕ, ℤ};
-
-    ghost Value = { List (ℕ × ℤ × ℤ) };
-
-    ghost view = { λ l. l.items.items };
-}
-
-impl StateList {
-    /// The list of these items.
-    pub fn from_vec(items: Vec<(u32, i64, i64)>) -> Self
-        ensures { result ≡ items.items }
-    {
-        StateList { items }
-    }
-
-    /// The items, in order.
-    pub fn list(&self) -> &[(u32, i64, i64)]
-        ensures { result.now ≡ self.now }
-    {
-        &self.items
-    }
-}
+pub type StateList = Items<(u32, i64, i64)>;

@@ -1,9 +1,7 @@
-// What a scenario holds.
-ghost use Rattle.std.specs.Prelude.{◌≡◌};
+//! What a scenario holds.
 
-use crate::lists::{IdList, PtList, StateList};
+use crate::lists::{IdList, Items, PtList, StateList};
 use indexmap::IndexMap;
-use std::marker::Model;
 
 /// The type of a dynamic obstacle; `Unknown` stands for every word that names none of the others.
 #[derive(Clone, Copy, Debug, PartialEq, Eq)]
@@ -99,97 +97,13 @@ pub struct Problem {
 }
 
 /// The dynamic obstacles, in document order.
-#[derive(Drop)]
-pub struct Movers {
-    items: Vec<Mover>,
-}
-
-impl Model for Movers {
-    ghost use Rattle.std.specs.Prelude.{List};
-    ghost use Rattle.spot_terms.specs.declared.scenario.Mover.{Mover};
-
-    ghost Value = { List Mover };
-
-    ghost view = { λ l. l.items.items };
-}
-
-impl Movers {
-    /// The list of these items.
-    pub fn from_vec(items: Vec<Mover>) -> Self
-        ensures { result ≡ items.items }
-    {
-        Movers { items }
-    }
-
-    /// The items, in order.
-    pub fn list(&self) -> &[Mover]
-        ensures { result.now ≡ self.now }
-    {
-        &self.items
-    }
-}
+pub type Movers = Items<Mover>;
 
 /// The static obstacles, in document order.
-#[derive(Drop)]
-pub struct FixedList {
-    items: Vec<Fixed>,
-}
-
-impl Model for FixedList {
-    ghost use Rattle.std.specs.Prelude.{List};
-    ghost use Rattle.spot_terms.specs.declared.scenario.Fixed.{Fixed};
-
-    ghost Value = { List Fixed };
-
-    ghost view = { λ l. l.items.items };
-}
-
-impl FixedList {
-    /// The list of these items.
-    pub fn from_vec(items: Vec<Fixed>) -> Self
-        ensures { result ≡ items.items }
-    {
-        FixedList { items }
-    }
-
-    /// The items, in order.
-    pub fn list(&self) -> &[Fixed]
-        ensures { result.now ≡ self.now }
-    {
-        &self.items
-    }
-}
+pub type FixedList = Items<Fixed>;
 
 /// The planning problems, in document order.
-#[derive(Drop)]
-pub struct Problems {
-    items: Vec<Problem>,
-}
-
-impl Model for Problems {
-    ghost use Rattle.std.specs.Prelude.{List};
-    ghost use Rattle.spot_terms.specs.declared.scenario.Problem.{Problem};
-
-    ghost Value = { List Problem };
-
-    ghost view = { λ l. l.items.items };
-}
-
-impl Problems {
-    /// The list of these items.
-    pub fn from_vec(items: Vec<Problem>) -> Self
-        ensures { result ≡ items.items }
-    {
-        Problems { items }
-    }
-
-    /// The items, in order.
-    pub fn list(&self) -> &[Problem]
-        ensures { result.now ≡ self.now }
-    {
-        &self.items
-    }
-}
+pub type Problems = Items<Problem>;
 
 /// What is read of an accepted tree, each list in document order.
 #[derive(Drop)]

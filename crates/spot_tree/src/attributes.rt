@@ -1,4 +1,5 @@
 //! Attributes of an element.
+
 ghost use Rattle.std.specs.Prelude.{◌≡◌, map, option_map, IfOk, IfSome, is_some};
 ghost use Rattle.serde_json.specs.View.{members_view};
 ghost use Rattle.spot_claims.specs.Tree.{are_strings, pairs_of, value_at};

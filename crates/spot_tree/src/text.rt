@@ -1,4 +1,5 @@
 //! Text of an element.
+
 ghost use Rattle.std.specs.Prelude.{◌≡◌, ℕ, [], ◌∷◌, ◌++◌, IfOk, OnOk, IfSome, IfNone, string_bytes, IsTrue, reverse};
 ghost use Rattle.spot_claims.specs.Tree.{trimmed, is_blank, without_front};
 

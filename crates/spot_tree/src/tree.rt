@@ -1,4 +1,5 @@
 //! The whole tree.
+
 ghost use Rattle.std.specs.Prelude.{◌≡◌, ◌<◌, ◌≤◌, length, option_map, IfSome};
 ghost use Rattle.std.specs.List.{All};
 ghost use Rattle.spot_claims.specs.Tree.{IsTree, element_in, attribute_at, text_at, first_named, Rising};
@@ -9,6 +10,7 @@ use crate::attributes::value_of;
 use crate::node::Node;
 use crate::walk::add_elements;
 use serde_json::Value;
+use spot_terms::MOST_BYTES;
 use std::alloc::Global;
 use std::marker::Model;
 
@@ -36,7 +38,7 @@ impl Tree {
     pub fn len(&self) -> u32
         ensures same { result ≡ length self.now }
         ensures some { 0 < result }
-        ensures few { result ≤ 67108864 }
+        ensures few { result ≤ MOST_BYTES }
     {
         self.nodes.len() as u32
     }
@@ -114,7 +116,7 @@ impl Tree {
 /// bytes are no JSON text, in UTF-8 and with nesting of at most 127, and `NotTree` exactly where a value that must be an
 /// element isn't one by itself, with the number that the first of them would have.
 pub fn read_tree(alloc: Global, bytes: &[u8]) -> Result<Tree, TreeFault>
-    requires { length bytes.now ≤ 67108864 }
+    requires { length bytes.now ≤ MOST_BYTES }
     ensures { ReadsTree bytes.now result }
 {
     let value = match Value::from_slice(alloc, bytes) {

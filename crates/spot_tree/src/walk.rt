@@ -1,4 +1,5 @@
 //! From a JSON value to a flat list of elements.
+
 ghost use Rattle.std.specs.Prelude.{◌≡◌, ◌≢◌, ◌+◌, ◌≤◌, ◌<◌, ◌++◌, length, IfOk, OnOk, slice_set, slice_index_or, string_bytes};
 ghost use Rattle.serde_json.specs.View.{view, items_view};
 ghost use Rattle.serde_json.specs.Data.{array};
@@ -12,6 +13,7 @@ use crate::node::Node;
 use crate::opened::{Opened, open_element};
 use crate::text::{append, without_blanks};
 use serde_json::Value;
+use spot_terms::MOST_BYTES;
 use std::alloc::Global;
 use std::vec::IntoIter;
 
@@ -32,7 +34,7 @@ pub(crate) fn add_elements(
     value: Value,
     nodes: &mut Vec<Node>,
 ) -> Result<(), TreeFault>
-    requires room { length nodes.old.items + length (wanted (view value)) ≤ 67108864 }
+    requires room { length nodes.old.items + length (wanted (view value)) ≤ MOST_BYTES }
     requires one { length (wanted (view value)) ≢ 0 }
     ensures ok { OnOk result (elements nodes.new.items
         ≡ elements nodes.old.items ++ numbered (length nodes.old.items) (wanted (view value))) }
@@ -46,24 +48,18 @@ pub(crate) fn add_elements(
 
 #[cycle(add_elements)]
 fn add_array(alloc: Global, items: Vec<Value>, nodes: &mut Vec<Node>) -> Result<(), TreeFault>
-    requires room { length nodes.old.items + length (wanted (array (items_view items.items))) ≤ 67108864 }
+    requires room { length nodes.old.items + length (wanted (array (items_view items.items))) ≤ MOST_BYTES }
     ensures ok { OnOk result (elements nodes.new.items
         ≡ elements nodes.old.items ++ numbered (length nodes.old.items) (wanted (array (items_view items.items)))) }
     ensures fault { Walks (fault_from (length nodes.old.items) (wanted (array (items_view items.items)))) result }
 {
     let at = nodes.len();
-    let Opened { node, first, rest } = match open_element(alloc, items) {
-        Ok(Some(opened)) => opened,
-        Ok(None) => return Err(TreeFault::NotTree(at as u32)),
-        Err(_) => return Err(TreeFault::Memory),
+    let Some(Opened { node, first, rest }) = open_element(alloc, items)? else {
+        return Err(TreeFault::NotTree(at as u32));
     };
-    if nodes.push(node).is_err() {
-        return Err(TreeFault::Memory);
-    }
+    nodes.push(node)?;
     let content = add_content(alloc, first, rest, nodes)?;
-    let Ok(text) = without_blanks(alloc, content.text) else {
-        return Err(TreeFault::Memory);
-    };
+    let text = without_blanks(alloc, content.text)?;
     set_content(nodes, at, text, content.children);
     Ok(())
 }
@@ -87,7 +83,7 @@ fn add_content(
     mut rest: IntoIter<Value, Global>,
     nodes: &mut Vec<Node>,
 ) -> Result<Content, TreeFault>
-    requires room { length nodes.old.items + length (wanted_in (content_view first rest)) ≤ 67108864 }
+    requires room { length nodes.old.items + length (wanted_in (content_view first rest)) ≤ MOST_BYTES }
     ensures ok { OnOk result (elements nodes.new.items
         ≡ elements nodes.old.items ++ numbered (length nodes.old.items) (wanted_in (content_view first rest))) }
     ensures content { IfOk result (λ content. (string_bytes content.text ≡ joined (content_view first rest))
@@ -99,15 +95,9 @@ fn add_content(
     let mut next = first;
     while let Some(item) = next {
         match item {
-            Value::String(part) => {
-                if append(&mut text, part).is_err() {
-                    return Err(TreeFault::Memory);
-                }
-            }
+            Value::String(part) => append(&mut text, part)?,
             value => {
-                if children.push(nodes.len() as u32).is_err() {
-                    return Err(TreeFault::Memory);
-                }
+                children.push(nodes.len() as u32)?;
                 add_elements(alloc, value, nodes)?;
             }
         }

@@ -1,4 +1,5 @@
 //! The command line that `clap` is asked to match.
+
 ghost use Rattle.std.specs.Prelude.{◌≡◌, ◌≢◌, List, [], ◌∷◌, map, codes, IfOk, IfSome, IfNone, string_bytes, option_map};
 ghost use Rattle.clap.specs.Words.{app_of, found_of, rows_of, matches_of, fault_of, first_of, with_rule, rule_of, new_rule};
 ghost use Rattle.spot_words.specs.Line.{spot_app, option_rule, mode_rule, with_options as app_with_options};
@@ -52,7 +53,7 @@ fn command<'a>(alloc: Global) -> Result<Command<'a>, AllocError>
     with_options(alloc, command, &names)
 }
 
-// The matches of the words, or none where they have none.
+/// The matches of the words, or none where they have none.
 pub fn parse<'a>(
     alloc: Global,
     words: &'a Vec<String>,
@@ -74,7 +75,7 @@ pub fn parse<'a>(
     }
 }
 
-// The text of an option or of the mode, where it is given.
+/// The text of an option or of the mode, where it is given.
 pub fn option_text<'a>(matches: &ArgMatches<'a>, name: &str) -> Option<&'a str>
     ensures { option_map (λ text. text.now) result ≡ first_of name.now (rows_of (found_of matches.now)) }
 {

@@ -1,10 +1,11 @@
 //! Numbers in words.
+
 ghost use Rattle.std.specs.Prelude.{◌≡◌};
 ghost use Rattle.spot_words.specs.Words.{number_in as number_within};
 
 use spot_decimal::read_digits;
 
-// A number of one to ten digits, within a range.
+/// A number of one to ten digits, within a range.
 pub fn number_in(text: &str, low: u32, high: u32) -> Option<u32>
     ensures { result ≡ number_within low high text.now }
 {

@@ -2,7 +2,7 @@ use super::*;
 use std::alloc::{AllocError, Global};
 use std::test::Fail;
 
-/// The command of these words, the program's own name first.
+// The command of these words, the program's own name first.
 fn read(alloc: Global, line: &[&str]) -> Result<Option<Command>, AllocError> {
     let mut words = Vec::new(alloc);
     for word in line {
@@ -11,7 +11,7 @@ fn read(alloc: Global, line: &[&str]) -> Result<Option<Command>, AllocError> {
     read_words(alloc, &words)
 }
 
-/// A prediction with all defaults.
+// A prediction with all defaults.
 const DEFAULT: Command = Command {
     task: Task::Predict,
     steps: 30,
@@ -27,7 +27,7 @@ const DEFAULT: Command = Command {
     movers: 20,
 };
 
-/// Words that stand for a command.
+// Words that stand for a command.
 const COMMANDS: [(&[&str], Command); 38] = [
     (&["spot", "predict"], DEFAULT),
     (
@@ -323,7 +323,7 @@ const COMMANDS: [(&[&str], Command); 38] = [
     ),
 ];
 
-/// Words that stand for no command.
+// Words that stand for no command.
 const BAD: [&[&str]; 70] = [
     &[],
     &["spot"],

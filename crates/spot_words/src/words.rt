@@ -1,4 +1,5 @@
 //! What the words stand for.
+
 ghost use Rattle.std.specs.Prelude.{◌≡◌, ℕ, List, map, IfOk, IfSome, IfNone, string_bytes};
 ghost use Rattle.clap.specs.Words.{found_of, rows_of, first_of};
 ghost use Rattle.spot_words.specs.Words.{number_or, optional_number as optional_number_of, mode_named, StandsFor};
@@ -13,7 +14,7 @@ use spot_terms::{Command, Task};
 use std::alloc::{AllocError, Global};
 
 // The ego's bounds and size.
-#[derive(Clone, Copy)]
+#[derive(Clone, Copy, Debug, PartialEq, Eq)]
 struct Ego {
     acc: u32,
     speed: u32,
@@ -22,14 +23,14 @@ struct Ego {
 }
 
 // The sides of a cell of the grid.
-#[derive(Clone, Copy)]
+#[derive(Clone, Copy, Debug, PartialEq, Eq)]
 struct Cell {
     x: u32,
     y: u32,
 }
 
 // What a sample is made from.
-#[derive(Clone, Copy)]
+#[derive(Clone, Copy, Debug, PartialEq, Eq)]
 struct Sample {
     seed: u32,
     lanes: u32,

@@ -4,14 +4,16 @@
 //! made in the same buffer.
 #![tactic(auto)]
 
+mod ego_line;
 mod line_buffer;
 mod writers;
 
+pub use ego_line::EgoLine;
 pub use line_buffer::LineBuffer;
 pub use spot_terms::{End, Mode, MoverLine};
 pub use writers::{
-    write_count, write_disc, write_end, write_fixed, write_head, write_lane, write_late,
-    write_mover, write_occ, write_time,
+    write_count, write_disc, write_ego, write_end, write_fixed, write_head, write_lane, write_late,
+    write_mover, write_occ, write_set, write_time,
 };
 
 #[cfg(test)]

@@ -1,10 +1,15 @@
 //! The writers of the lines: each makes its line in a buffer, by a function of its own, and writes it whole. Each answers
 //! `SinkFault` only where the sink's count of faults rose in the call, and then a front of the line was appended.
-ghost use Rattle.std.specs.Prelude.{◌≡◌, ◌≤◌, length};
+ghost use Rattle.std.specs.Prelude.{◌≡◌, ◌+◌, ◌≤◌, ◌++◌, length};
 ghost use Rattle.spot_io.specs.Writes.{WritesText};
-ghost use Rattle.spot_terms.specs.Report.{line_text, mode_word, kind_word, head_line, time_line, mover_line, late_line, fixed_line, lane_line, occ_line, disc_line, count_line, last_line};
+ghost use Rattle.spot_terms.specs.Report.{line_text, mode_word, kind_word, head_line, time_line, mover_line, late_line, fixed_line, lane_line, occ_line, corner_words, ego_line, set_line, disc_line, count_line, last_line};
+ghost use Rattle.base_sets.specs.Values.{value_of};
+ghost use Rattle.text_report.specs.Blanked.{blanked};
+ghost use Rattle.text_report.specs.Values.{ego_value};
 
+use crate::ego_line::EgoLine;
 use crate::line_buffer::LineBuffer;
+use base_sets::BaseSet;
 use convex_poly::{OctNumbers, Poly};
 use spot_io::{Sink, SinkFault};
 use spot_terms::{End, Mode, MoverLine, Pt};
@@ -144,13 +149,11 @@ pub fn write_lane<K: Sink>(
 fn put_lane(line: &mut LineBuffer, id: u32, cell: u32, first: u32, p: &Poly)
     ensures { line.new ≡ line_text (lane_line id cell first p.now) }
 {
-    let corners = p.corners();
     line.start("lane");
     line.number(id);
     line.number(cell);
     line.number(first);
-    line.number(corners.len());
-    line.points(corners);
+    put_corners(line, p);
     line.end();
 }
 
@@ -203,6 +206,71 @@ fn put_disc(line: &mut LineBuffer, step: u32, id: u32, p: Pt, r: u64)
     line.point(p);
     line.number(r);
     line.end();
+}
+
+/// The line of the ego: its problem's id; its greatest acceleration in m/s² and speed in mm/s; the widths of a column and
+/// of a row in µm; its start position in µm; and its box of start velocities in mm/s.
+///
+/// At `SinkFault` the sink's count of faults rose in this call, and a front of the line was appended.
+pub fn write_ego<K: Sink>(sink: &mut K, e: &EgoLine) -> Result<(), SinkFault>
+    requires { K.takes sink.old (length (line_text (ego_line (ego_value e.now)))) }
+    ensures { WritesText K.Sink sink.old sink.new (line_text (ego_line (ego_value e.now))) result }
+{
+    let mut line = LineBuffer::new();
+    put_ego(&mut line, e);
+    line.write(sink)
+}
+
+fn put_ego(line: &mut LineBuffer, e: &EgoLine)
+    ensures { line.new ≡ line_text (ego_line (ego_value e.now)) }
+{
+    line.start("ego");
+    line.number(e.problem);
+    line.number(e.e.a);
+    line.number(e.e.v);
+    line.number(e.grid.w);
+    line.number(e.grid.g);
+    line.point(e.s.p);
+    line.velocities(e.s.b);
+    line.end();
+}
+
+/// The line of a base set: its step, its column and its row; then of its polygon of x, and of that of y, how many corners
+/// it has, and each of them: a place in µm and a speed in mm/s.
+///
+/// At `SinkFault` the sink's count of faults rose in this call, and a front of the line was appended.
+pub fn write_set<K: Sink>(sink: &mut K, step: u32, b: &BaseSet) -> Result<(), SinkFault>
+    requires { K.takes sink.old (length (line_text (set_line step (value_of b.now)))) }
+    ensures { WritesText K.Sink sink.old sink.new (line_text (set_line step (value_of b.now))) result }
+{
+    let mut line = LineBuffer::new();
+    put_set(&mut line, step, b);
+    line.write(sink)
+}
+
+fn put_set(line: &mut LineBuffer, step: u32, b: &BaseSet)
+    ensures { line.new ≡ line_text (set_line step (value_of b.now)) }
+{
+    line.start("set");
+    line.number(step);
+    line.number(b.col);
+    line.number(b.row);
+    line.word("x");
+    put_corners(line, &b.x);
+    line.word("y");
+    put_corners(line, &b.y);
+    line.end();
+}
+
+// How many corners a polygon has, and each of them.
+fn put_corners(line: &mut LineBuffer, p: &Poly)
+    requires { length line.old + 861 ≤ 2048 }
+    ensures bytes { line.new ≡ line.old ++ blanked (corner_words p.now) }
+    ensures short { length line.new ≤ length line.old + 861 }
+{
+    let corners = p.corners();
+    line.number(corners.len());
+    line.points(corners);
 }
 
 /// The line of a step's count: the step, and how many base sets it has.

@@ -50,7 +50,7 @@ returns-clause-value c =
     let d : c.row_of-3.result ≡ slot c.args.g c.args.high = simp to_z-of_z at c.row_of-3.ensures.value in
     let e : c.row_of-4.result ≡ slot c.args.g c.args.b.now.yhi = simp to_z-of_z at c.row_of-4.ensures.value in
     counted c ∙ shared_is c.args.g c.args.low c.args.high c.args.b.now.ylo c.args.b.now.yhi c.greater.result c.less.result c.row_of.result c.row_of-2.result c.row_of-3.result c.row_of-4.result
-        c.requires.order c.requires.reach.y (first c.before) (last c.before) a b d e
+    c.requires.order c.requires.reach.y (first c.before) (last c.before) a b d e
 
 pub returns-clause-few : goal.returns-clause-few
 returns-clause-few c =

@@ -56,25 +56,25 @@ loop-piece-preserved g c =
     let same_low : to_z w64 (of_z w64 c.args.low) ≡ c.args.low = to_z-of_z fits_low in
     let same_high : to_z w64 (of_z w64 c.args.high) ≡ c.args.high = to_z-of_z fits_high in
     let met_so_far : length c.loop-piece.spans.items ≤ sum_by (λ p. slots_shared c.args.g (range p) (c.args.low, c.args.high)) (numbers_below c.loop-piece.piece) =
-        alike range _ _ _ _ _ _ _ _ same_g same_low same_high c.loop-piece.invariant.met in
+    alike range _ _ _ _ _ _ _ _ same_g same_low same_high c.loop-piece.invariant.met in
     elim c.match-run_across.branch [
       | in-Some w ↦
-        let span : IsSpanOf (λ x. I c.loop-piece.piece x × J c.loop-piece.piece x) (w.in-Some.first, w.in-Some.last) = simp to_z-of_z at w.in-Some.ensures.run in
-        let reach : ((range c.loop-piece.piece).0 ≤ℤ c.args.low) × (c.args.high ≤ℤ (range c.loop-piece.piece).1) = simp to_z-of_z at w.in-Some.ensures.met in
-        let pushed : w.push_span.new.spans.items ≡ c.loop-piece.spans.items ++ record { first = w.in-Some.first; last = w.in-Some.last } ∷ [] = search (rules, w.push_span.ensures.items) in
-        record {
-          met = alike range _ _ _ _ _ _ _ _ (sym same_g) (sym same_low) (sym same_high) (met_hit c.args.g c.args.low c.args.high range c.loop-piece.piece c.loop-piece.spans.items c.match-run_across.spans.items (record { first = w.in-Some.first; last = w.in-Some.last })
-              (let k = c.requires.height.low in omega (arith, ints)) c.requires.ordered reach.0 reach.1 (ap (λ v. v.items) w.spans-is ∙ pushed) met_so_far);
-          gathers = simp to_z-of_z (hit I J c.loop-piece.piece c.loop-piece.spans.items c.match-run_across.spans.items (record { first = w.in-Some.first; last = w.in-Some.last }) inv span (ap (λ v. v.items) w.spans-is ∙ pushed));
-          capacity = omega (arith, c.loop-piece.invariant.capacity, w.push_span.ensures.capacity, ap vec_capacity w.spans-is);
-        }
+          let span : IsSpanOf (λ x. I c.loop-piece.piece x × J c.loop-piece.piece x) (w.in-Some.first, w.in-Some.last) = simp to_z-of_z at w.in-Some.ensures.run in
+          let reach : ((range c.loop-piece.piece).0 ≤ℤ c.args.low) × (c.args.high ≤ℤ (range c.loop-piece.piece).1) = simp to_z-of_z at w.in-Some.ensures.met in
+          let pushed : w.push_span.new.spans.items ≡ c.loop-piece.spans.items ++ record { first = w.in-Some.first; last = w.in-Some.last } ∷ [] = search (rules, w.push_span.ensures.items) in
+          record {
+            met = alike range _ _ _ _ _ _ _ _ (sym same_g) (sym same_low) (sym same_high) (met_hit c.args.g c.args.low c.args.high range c.loop-piece.piece c.loop-piece.spans.items c.match-run_across.spans.items (record { first = w.in-Some.first; last = w.in-Some.last })
+                (let k = c.requires.height.low in omega (arith, ints)) c.requires.ordered reach.0 reach.1 (ap (λ v. v.items) w.spans-is ∙ pushed) met_so_far);
+            gathers = simp to_z-of_z (hit I J c.loop-piece.piece c.loop-piece.spans.items c.match-run_across.spans.items (record { first = w.in-Some.first; last = w.in-Some.last }) inv span (ap (λ v. v.items) w.spans-is ∙ pushed));
+            capacity = omega (arith, c.loop-piece.invariant.capacity, w.push_span.ensures.capacity, ap vec_capacity w.spans-is);
+          }
       | in_default w ↦
-        let none : (x : ℤ) → I c.loop-piece.piece x × J c.loop-piece.piece x → ⊥ = simp to_z-of_z at w.in_default.ensures.run in
-        record {
-          met = alike range _ _ _ _ _ _ _ _ (sym same_g) (sym same_low) (sym same_high) (met_miss c.args.g c.args.low c.args.high range c.loop-piece.piece c.loop-piece.spans.items c.match-run_across.spans.items (ap (λ v. v.items) w.spans-is) met_so_far);
-          gathers = simp to_z-of_z (miss I J c.loop-piece.piece c.loop-piece.spans.items c.match-run_across.spans.items inv none (ap (λ v. v.items) w.spans-is));
-          capacity = omega (arith, c.loop-piece.invariant.capacity, ap vec_capacity w.spans-is);
-        }
+          let none : (x : ℤ) → I c.loop-piece.piece x × J c.loop-piece.piece x → ⊥ = simp to_z-of_z at w.in_default.ensures.run in
+          record {
+            met = alike range _ _ _ _ _ _ _ _ (sym same_g) (sym same_low) (sym same_high) (met_miss c.args.g c.args.low c.args.high range c.loop-piece.piece c.loop-piece.spans.items c.match-run_across.spans.items (ap (λ v. v.items) w.spans-is) met_so_far);
+            gathers = simp to_z-of_z (miss I J c.loop-piece.piece c.loop-piece.spans.items c.match-run_across.spans.items inv none (ap (λ v. v.items) w.spans-is));
+            capacity = omega (arith, c.loop-piece.invariant.capacity, ap vec_capacity w.spans-is);
+          }
     ]
 
 at_end : (I J : ℕ → ℤ → Type 0) (n m : ℕ) (xs : List Span) → Gathers I J n xs → n ≡ m → Gathers I J m xs

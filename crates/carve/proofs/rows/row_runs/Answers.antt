@@ -92,8 +92,8 @@ pub col-requires-clause-grid : goal.col-requires-clause-grid
 col-requires-clause-grid g c =
     c.requires.grid
 
-pub col-requires-clause-x : goal.col-requires-clause-x
-col-requires-clause-x g c =
+pub col-requires-clause-place : goal.col-requires-clause-place
+col-requires-clause-place g c =
     let fits_row : FitsSigned w64 c.args.row = c.ranges.row in
     let fits_g : FitsSigned w64 c.args.grid.now.g = fits_wide _ c.requires.grid.g in
     let fits_w : FitsSigned w64 c.args.grid.now.w = fits_wide _ c.requires.grid.w in
@@ -105,8 +105,8 @@ pub col-requires-2-clause-grid : goal.col-requires-2-clause-grid
 col-requires-2-clause-grid g c =
     c.requires.grid
 
-pub col-requires-2-clause-x : goal.col-requires-2-clause-x
-col-requires-2-clause-x g c =
+pub col-requires-2-clause-place : goal.col-requires-2-clause-place
+col-requires-2-clause-place g c =
     let fits_row : FitsSigned w64 c.args.row = c.ranges.row in
     let fits_g : FitsSigned w64 c.args.grid.now.g = fits_wide _ c.requires.grid.g in
     let fits_w : FitsSigned w64 c.args.grid.now.w = fits_wide _ c.requires.grid.w in
@@ -202,7 +202,7 @@ put_free-requires-clause-room g c =
     let same_last : to_z w64 (of_z w64 c.col-2.result) ≡ slot c.args.grid.now.w c.args.b.now.xhi = to_z-of_z fits_last ∙ last in
     λ columns e.
     let count : pos columns ≡ slot c.args.grid.now.w c.args.b.now.xhi -ℤ slot c.args.grid.now.w c.args.b.now.xlo +ℤ pos 1 =
-        subst (λ (z : ℤ). pos columns ≡ slot c.args.grid.now.w c.args.b.now.xhi -ℤ z +ℤ pos 1) same_first (subst (λ (z : ℤ). pos columns ≡ z -ℤ to_z w64 (of_z w64 c.col.result) +ℤ pos 1) same_last e) in
+    subst (λ (z : ℤ). pos columns ≡ slot c.args.grid.now.w c.args.b.now.xhi -ℤ z +ℤ pos 1) same_first (subst (λ (z : ℤ). pos columns ≡ z -ℤ to_z w64 (of_z w64 c.col.result) +ℤ pos 1) same_last e) in
     let met : columns ≡ slots_met c.args.grid.now.w c.args.b.now.xlo c.args.b.now.xhi = columns_are (slot c.args.grid.now.w c.args.b.now.xlo) (slot c.args.grid.now.w c.args.b.now.xhi) columns count in
     let room : c.runs.inside.room ≡ c.args.runs.now.room = ap (λ r. r.room) c.runs.view_is in
     omega (arith, met, room, c.requires.room, c.runs.invariant.1, c.gather.ensures.few, ap length c.deref.ensures.value, c.clear.ensures.capacity)
@@ -232,7 +232,7 @@ returns-clause-exact g c =
     let same_last : to_z w64 (of_z w64 c.col-2.result) ≡ slot c.args.grid.now.w c.args.b.now.xhi = to_z-of_z fits_last ∙ last in
     let exact : TakesBetween (g.O.Occupied.count c.args.o.now c.args.step) (g.O.Occupied.hits c.args.o.now c.args.step) (to_z w64 (of_z w64 c.row_ends-low.result.0)) (to_z w64 (of_z w64 c.row_ends-low.result.1)) c.gather.new.spans.items = c.gather.ensures.exact in
     row_exact (g.O.Occupied.count c.args.o.now c.args.step) (g.O.Occupied.hits c.args.o.now c.args.step) c.args.grid.now.g c.args.row _ _ c.gather.new.spans.items c.deref.result.now c.args.grid.now.w _ _ _ _ _ c.put_free.new.free.items
-        (read_low ∙ low) (read_high ∙ high) exact c.deref.ensures.value same_w same_first same_last c.put_free.ensures.runs
+    (read_low ∙ low) (read_high ∙ high) exact c.deref.ensures.value same_w same_first same_last c.put_free.ensures.runs
 
 pub returns-clause-covers : goal.returns-clause-covers
 returns-clause-covers g c =
@@ -255,7 +255,7 @@ returns-clause-covers g c =
     let same_last : to_z w64 (of_z w64 c.col-2.result) ≡ slot c.args.grid.now.w c.args.b.now.xhi = to_z-of_z fits_last ∙ last in
     let exact : TakesBetween (g.O.Occupied.count c.args.o.now c.args.step) (g.O.Occupied.hits c.args.o.now c.args.step) (to_z w64 (of_z w64 c.row_ends-low.result.0)) (to_z w64 (of_z w64 c.row_ends-low.result.1)) c.gather.new.spans.items = c.gather.ensures.exact in
     row_covers (g.O.Occupied.count c.args.o.now c.args.step) (g.O.Occupied.hits c.args.o.now c.args.step) c.args.grid.now.g c.args.row _ _ c.gather.new.spans.items c.deref.result.now c.args.grid.now.w _ _ _ _ _ c.put_free.new.free.items
-        (read_low ∙ low) (read_high ∙ high) exact c.deref.ensures.value same_w same_first same_last c.put_free.ensures.covers
+    (read_low ∙ low) (read_high ∙ high) exact c.deref.ensures.value same_w same_first same_last c.put_free.ensures.covers
 
 pub returns-clause-few : goal.returns-clause-few
 returns-clause-few g c =
@@ -279,7 +279,7 @@ returns-clause-few g c =
     let slots = slots_are c.args.grid.now.w c.args.b.now.xlo c.args.b.now.xhi c.requires.grid.w c.requires.reach.x c.requires.reach.xlo c.requires.reach.xhi in
     let columns : ℕ = slots_met c.args.grid.now.w c.args.b.now.xlo c.args.b.now.xhi in
     let count : pos columns ≡ to_z w64 (of_z w64 c.col-2.result) -ℤ to_z w64 (of_z w64 c.col.result) +ℤ pos 1 =
-        subst (λ (z : ℤ). pos columns ≡ to_z w64 (of_z w64 c.col-2.result) -ℤ z +ℤ pos 1) (sym same_first) (subst (λ (z : ℤ). pos columns ≡ z -ℤ slot c.args.grid.now.w c.args.b.now.xlo +ℤ pos 1) (sym same_last) (columns_counted _ _ slots.order)) in
+    subst (λ (z : ℤ). pos columns ≡ to_z w64 (of_z w64 c.col-2.result) -ℤ z +ℤ pos 1) (sym same_first) (subst (λ (z : ℤ). pos columns ≡ z -ℤ slot c.args.grid.now.w c.args.b.now.xlo +ℤ pos 1) (sym same_last) (columns_counted _ _ slots.order)) in
     let few = c.put_free.ensures.few columns count in
     let met = alike (g.O.Occupied.range c.args.o.now c.args.step) _ _ _ _ _ _ _ _ same_g (read_low ∙ low) (read_high ∙ high) c.gather.ensures.met in
     omega (arith, few, met, ap length c.deref.ensures.value)

@@ -30,28 +30,28 @@ loop-run-preserved c =
     let run : ℤ × ℤ = get_or c.args.runs.now c.loop-run.run-index (pos 0, pos 0) in
     let more = take_more c.args.runs.now c.loop-run.run-index (pos 0, pos 0) c.loop-run-test.true in
     let sizes : (nat_abs run.0 ≤ 40_000_000_000_000) × (nat_abs run.1 ≤ 40_000_000_000_000) =
-        all_at (λ (r : ℤ × ℤ). (nat_abs r.0 ≤ 40_000_000_000_000) × (nat_abs r.1 ≤ 40_000_000_000_000)) c.args.runs.now c.loop-run.run-index (pos 0, pos 0) c.requires.places c.loop-run-test.true in
+    all_at (λ (r : ℤ × ℤ). (nat_abs r.0 ≤ 40_000_000_000_000) × (nat_abs r.1 ≤ 40_000_000_000_000)) c.args.runs.now c.loop-run.run-index (pos 0, pos 0) c.requires.places c.loop-run-test.true in
     let fits_0 : FitsSigned w64 run.0 = fits run.0 sizes.0 in
     let fits_1 : FitsSigned w64 run.1 = fits run.1 sizes.1 in
     elim c.match-part_between.branch [
       | in-Some w ↦
-        let part : IsPart (places run.0 run.1) b.x (Some w.in-Some.x) = simp to_z-of_z at w.in-Some.ensures.part in
-        let keeps : KeepsParts (places run.0 run.1) b.x (Some w.in-Some.x) = simp to_z-of_z at w.in-Some.ensures.keeps in
-        let sets : c.match-part_between.out.sets ≡ c.loop-run.out.sets ++ with_x b w.in-Some.x ∷ [] =
-            ap (λ (l : SetRoom). l.sets) w.out-is ∙ (ap (λ (l : SetRoom). l.sets) w.push.ensures ∙ ap (λ (v : SetValue). c.loop-run.out.sets ++ v ∷ []) w.set_with_x.ensures) in
-        let room : c.match-part_between.out.room ≡ c.loop-run.out.room = ap (λ (l : SetRoom). l.room) w.out-is ∙ ap (λ (l : SetRoom). l.room) w.push.ensures in
-        record {
-          cut = cut_some b _ _ run _ _ _ w.in-Some.x c.loop-run.invariant.cut part keeps sets more;
-          few = longer _ _ _ _ _ sets c.loop-run.invariant.few;
-          room = room ∙ c.loop-run.invariant.room;
-        }
+          let part : IsPart (places run.0 run.1) b.x (Some w.in-Some.x) = simp to_z-of_z at w.in-Some.ensures.part in
+          let keeps : KeepsParts (places run.0 run.1) b.x (Some w.in-Some.x) = simp to_z-of_z at w.in-Some.ensures.keeps in
+          let sets : c.match-part_between.out.sets ≡ c.loop-run.out.sets ++ with_x b w.in-Some.x ∷ [] =
+          ap (λ (l : SetRoom). l.sets) w.out-is ∙ (ap (λ (l : SetRoom). l.sets) w.push.ensures ∙ ap (λ (v : SetValue). c.loop-run.out.sets ++ v ∷ []) w.set_with_x.ensures) in
+          let room : c.match-part_between.out.room ≡ c.loop-run.out.room = ap (λ (l : SetRoom). l.room) w.out-is ∙ ap (λ (l : SetRoom). l.room) w.push.ensures in
+          record {
+            cut = cut_some b _ _ run _ _ _ w.in-Some.x c.loop-run.invariant.cut part keeps sets more;
+            few = longer _ _ _ _ _ sets c.loop-run.invariant.few;
+            room = room ∙ c.loop-run.invariant.room;
+          }
       | in_default w ↦
-        let part : IsPart (places run.0 run.1) b.x None = simp to_z-of_z at w.in_default.ensures.part in
-        let keeps : KeepsParts (places run.0 run.1) b.x None = simp to_z-of_z at w.in_default.ensures.keeps in
-        let sets : c.match-part_between.out.sets ≡ c.loop-run.out.sets = ap (λ (l : SetRoom). l.sets) w.out-is in
-        record {
-          cut = cut_none b _ _ run _ _ _ c.loop-run.invariant.cut part keeps sets more;
-          few = as_long _ _ _ _ sets c.loop-run.invariant.few;
-          room = ap (λ (l : SetRoom). l.room) w.out-is ∙ c.loop-run.invariant.room;
-        }
+          let part : IsPart (places run.0 run.1) b.x None = simp to_z-of_z at w.in_default.ensures.part in
+          let keeps : KeepsParts (places run.0 run.1) b.x None = simp to_z-of_z at w.in_default.ensures.keeps in
+          let sets : c.match-part_between.out.sets ≡ c.loop-run.out.sets = ap (λ (l : SetRoom). l.sets) w.out-is in
+          record {
+            cut = cut_none b _ _ run _ _ _ c.loop-run.invariant.cut part keeps sets more;
+            few = as_long _ _ _ _ sets c.loop-run.invariant.few;
+            room = ap (λ (l : SetRoom). l.room) w.out-is ∙ c.loop-run.invariant.room;
+          }
     ]

@@ -6,16 +6,13 @@ use Rattle.lane_occupancy.specs.Polygons.{polygon_of}
 use Rattle.lane_occupancy.specs.declared.polygons.LanePoly.{LanePoly}
 use Rattle.lane_occupancy.proofs.LaneBodies.{holds_bodies}
 use Rattle.lane_occupancy.proofs.LanePolyLists.{hull_of_corners, polygons_none, polygons_more, polygons_same, polygons_all}
-use Rattle.lane_occupancy.proofs.ReachedCells.{label_inside, few_ends, rising_ends, is_reached, is_never}
+use Rattle.lane_occupancy.proofs.ReachedCells.{few_ends, rising_ends, is_reached, is_never}
 use Rattle.lane_occupancy.proofs.Shapes.{few_of_cell, near_of_body, near_summands}
 use Rattle.lane_occupancy.proofs.polygons.lane_polys.Goals as goal
 use Rattle.lane_occupancy.proofs.polygons.lane_polys.Goals.{After-drop-ends-2, in-Some+in_ok-push, in_default}
 
 pub loop-c-init : goal.loop-c-init
 loop-c-init c = λ speed h. polygons_none c.args.net.now c.args.s.now speed c.args.k c.args.steps c.new-polys.result.items c.new-polys.ensures.items
-
-pub first_interval-requires-clause-cell : goal.first_interval-requires-clause-cell
-first_interval-requires-clause-cell c = label_inside c.args.net.now c.args.s.now c.start_speed.result c.args.k c.args.steps c.args.labels.now c.loop-c.c c.len-c-end.result c.start_speed.ensures.least c.requires.labels c.len-c-end.ensures c.loop-c-test.true
 
 pub first_interval-requires-clause-few : goal.first_interval-requires-clause-few
 first_interval-requires-clause-few c = few_ends c.args.s.now c.start_speed.result c.args.k c.args.steps c.deref.result.now c.in_ok-ends.ends.items c.requires.steps c.deref.ensures.value c.in_ok-ends.ensures
@@ -54,7 +51,7 @@ loop-c-preserved c =
           (ap (λ v. v.items) w.polys-is ∙ w.in_ok-push.ensures.items) (c.loop-c.invariant speed h)
       | in_default w ↦ λ speed h.
           polygons_same net s speed k steps at was now
-          (is_never net s own k steps labels ends c.in_ok-ends.ends.items c.start_speed.ensures.least c.requires.labels c.deref.ensures.value c.in_ok-ends.ensures speed h at c.len-c-end.result c.len-c-end.ensures c.loop-c-test.true w.in_default.ensures.none)
+          (is_never net s own k steps labels ends c.in_ok-ends.ends.items c.start_speed.ensures.least c.requires.labels c.deref.ensures.value c.in_ok-ends.ensures speed h at w.in_default.ensures.none)
           (ap (λ v. v.items) w.polys-is) (c.loop-c.invariant speed h)
     ]
 

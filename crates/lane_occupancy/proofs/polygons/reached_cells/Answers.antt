@@ -2,15 +2,12 @@ use Rattle.std.proofs.Common.{ℕ, arith, length, ◌≤◌, ◌∙◌, sym}
 use Rattle.spot_terms.specs.Bodies.{IsLeast}
 use Rattle.spot_terms.specs.Cells.{cells}
 use Rattle.lane_occupancy.specs.Reaches.{IsWithin}
-use Rattle.lane_occupancy.proofs.ReachedCells.{label_inside, few_ends, rising_ends, is_reached, is_never, found, missed, counted_none, counted_more, counted_same, whole}
+use Rattle.lane_occupancy.proofs.ReachedCells.{few_ends, rising_ends, is_reached, is_never, found, missed, counted_none, counted_more, counted_same, whole}
 use Rattle.lane_occupancy.proofs.polygons.reached_cells.Goals as goal
 use Rattle.lane_occupancy.proofs.polygons.reached_cells.Goals.{then-is_some, else-is_some}
 
 pub loop-c-init : goal.loop-c-init
 loop-c-init c = (omega arith, λ speed h. counted_none c.args.net.now c.args.s.now speed c.args.k c.args.steps)
-
-pub first_interval-requires-clause-cell : goal.first_interval-requires-clause-cell
-first_interval-requires-clause-cell c = label_inside c.args.net.now c.args.s.now c.start_speed.result c.args.k c.args.steps c.args.labels.now c.loop-c.c c.len-c-end.result c.start_speed.ensures.least c.requires.labels c.len-c-end.ensures c.loop-c-test.true
 
 pub first_interval-requires-clause-few : goal.first_interval-requires-clause-few
 first_interval-requires-clause-few c = few_ends c.args.s.now c.start_speed.result c.args.k c.args.steps c.deref.result.now c.in_ok-ends.ends.items c.requires.steps c.deref.ensures.value c.in_ok-ends.ensures
@@ -38,7 +35,7 @@ loop-c-preserved c =
         omega (arith, was, w.count-is),
         λ speed h.
             counted_same net s speed k steps at c.loop-c.count c.if-is_some.count
-            (is_never net s own k steps labels ends c.in_ok-ends.ends.items c.start_speed.ensures.least c.requires.labels c.deref.ensures.value c.in_ok-ends.ensures speed h at c.len-c-end.result c.len-c-end.ensures c.loop-c-test.true
+            (is_never net s own k steps labels ends c.in_ok-ends.ends.items c.start_speed.ensures.least c.requires.labels c.deref.ensures.value c.in_ok-ends.ensures speed h at
             (missed o ((i : ℕ) → IsWithin labels ends at i → ⊥) (sym c.is_some.ensures ∙ w.if-is_some.false) c.first_interval.ensures.none)) w.count-is (c.loop-c.invariant.1 speed h),
       )
     ]

@@ -23,8 +23,8 @@ returns-then-is_far_from c =
           (λ disjoint. let yes : w.are_apart.result ≡ true = w.are_apart.ensures.1 disjoint in let no : w.are_apart.result ≡ false = w.if-not-are_apart.true in cc)
     ]
 
-pub span_between-requires-clause-near : goal.span_between-requires-clause-near
-span_between-requires-clause-near c = λ far.
+pub clearance_between-requires-clause-near : goal.clearance_between-requires-clause-near
+clearance_between-requires-clause-near c = λ far.
     let yes : c.is_far_from.result ≡ true = (c.is_far_from.ensures c.corners-a_corners.result.now c.corners-b_corners.result.now c.of-a_box.ensures c.of-b_box.ensures).1 far in
     let no : c.is_far_from.result ≡ false = c.if-is_far_from.false in
     cc
@@ -34,7 +34,7 @@ returns c =
     let a : List Pt = c.args.a.now in
     let b : List Pt = c.args.b.now in
     let far = c.is_far_from.ensures a b (box_same c.corners-a_corners.result.now a c.of-a_box.result c.corners-a_corners.ensures.items c.of-a_box.ensures) (box_same c.corners-b_corners.result.now b c.of-b_box.result c.corners-b_corners.ensures.items c.of-b_box.ensures) in
-    gap_least a b c.corners-a_corners.result.now c.corners-b_corners.result.now c.span_between.result c.isqrt_floor.result c.corners-a_corners.ensures.items c.corners-b_corners.ensures.items
+    gap_least a b c.corners-a_corners.result.now c.corners-b_corners.result.now c.clearance_between.result c.isqrt_floor.result c.corners-a_corners.ensures.items c.corners-b_corners.ensures.items
     (λ f. let yes : c.is_far_from.result ≡ true = far.1 f in let no : c.is_far_from.result ≡ false = c.if-is_far_from.false in cc)
-    (c.are_apart.ensures.0 c.if-not-are_apart.false) c.span_between.ensures.is
+    (c.are_apart.ensures.0 c.if-not-are_apart.false) c.clearance_between.ensures.is
     (record { low = c.isqrt_floor.ensures.square_le; high = c.isqrt_floor.ensures.next_square_gt })

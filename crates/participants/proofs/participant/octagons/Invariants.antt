@@ -5,4 +5,4 @@ use Rattle.participants.proofs.participant.octagons.Given as goal
 
 -- the octagons of the intervals so far, and the run stands before the next
 abbrev pub invariant-loop : goal.invariant-loop
-invariant-loop l = (map (λ o. o.n) l.items.items ≡ map (interval_numbers l.s l.k) (numbers_below l.counter)) × (l.run ≡ record { start = l.s; ticks = l.k; interval = l.counter })
+invariant-loop l = (map (λ o. o.n) l.items.items ≡ map (interval_numbers l.s l.fn.h.k) (numbers_below l.counter)) × (l.run ≡ record { start = l.s; ticks = l.fn.h.k; interval = l.counter })

@@ -1,10 +1,9 @@
-use Rattle.std.proofs.Common.{◌∙◌, ◌≡◌, ℕ, ◌≤◌, refl, sym, subst, to_z, of_z, w64, pos, neg_ℤ, List, ℤ, arith, Some, None, inl, inr}
-use Rattle.std.specs.Prelude.{nat_abs, Option, IfSome}
+use Rattle.std.proofs.Common.{◌≡◌, ◌≤◌, subst, to_z, of_z, w64, pos, neg_ℤ, ℤ, arith, Some, None, inl, inr}
+use Rattle.std.specs.Prelude.{nat_abs}
 use Rattle.std.proofs.lemmas.Int.{ints}
 use lib.Signed.{◌≤ℤ◌}
 use Rattle.spot_terms.specs.Courses.{Course}
-use Rattle.spot_terms.specs.declared.plain.Pt.{Pt}
-use Rattle.spot_terms.specs.Whole.{Within, SizeAtMost}
+use Rattle.spot_terms.specs.Whole.{Within}
 use Rattle.base_sets.specs.Values.{course_with}
 use Rattle.propagate.specs.Children.{IsPlaneChild, HoldsPlane, IsChildIn}
 use Rattle.propagate.proofs.children.child.Goals as goal

@@ -1,10 +1,10 @@
-use Rattle.std.proofs.Common.{◌∙◌, ◌≡◌, ℕ, ◌≤◌, ◌<◌, ap, refl, sym, subst, to_z, of_z, w64, pos, List, ℤ, arith}
+use Rattle.std.proofs.Common.{◌∙◌, ◌≡◌, ℕ, ◌≤◌, ap, sym, subst, to_z, of_z, w64, pos, List, ℤ, arith}
 use Rattle.std.specs.Prelude.{nat_abs}
 use Rattle.std.proofs.lemmas.Int.{ints}
 use Rattle.spot_terms.specs.declared.plain.Pt.{Pt}
 use Rattle.spot_terms.specs.ChildNumbers.{child_numbers}
-use Rattle.spot_terms.specs.Frames.{at, InFrame, frame_points}
-use Rattle.spot_terms.specs.Hull.{IsHullOf, IsCornerList, InHull}
+use Rattle.spot_terms.specs.Frames.{InFrame, frame_points}
+use Rattle.spot_terms.specs.Hull.{IsHullOf, InHull}
 use Rattle.spot_terms.specs.Whole.{Within}
 use Rattle.propagate.proofs.ChildCode.{slow_read}
 use Rattle.propagate.proofs.NextStates.{held_by_frame}

@@ -1,7 +1,6 @@
-use Rattle.std.proofs.Common.{◌∙◌, ◌≡◌, ℕ, ◌≤◌, ◌<◌, ap, refl, sym, subst, to_z, of_z, w64, pos, neg_ℤ, List, ℤ, arith, Some, None}
+use Rattle.std.proofs.Common.{◌≡◌, sym, subst, to_z, of_z, w64, pos, ℤ, arith, Some, None}
 use Rattle.std.specs.Prelude.{nat_abs}
 use Rattle.std.proofs.lemmas.Int.{ints}
-use Rattle.spot_terms.specs.declared.plain.Pt.{Pt}
 use Rattle.spot_terms.specs.ChildNumbers.{child_numbers}
 use Rattle.spot_terms.specs.ClippedTo.{places, speeds}
 use Rattle.spot_terms.specs.StepLists.{IsFrameOf}

@@ -1,7 +1,6 @@
-use Rattle.std.proofs.Common.{◌≡◌, ◌<◌, ◌≤◌, ap, arith, refl, subst, sym, length, List, [], ◌∷◌, to_z, of_z, w64, pos, ℤ}
+use Rattle.std.proofs.Common.{◌≡◌, ◌<◌, arith, subst, sym, length, List, [], ◌∷◌, to_z, of_z, w64, pos, ℤ}
 use Rattle.std.specs.Prelude.{nat_abs}
 use Rattle.std.specs.List.{AllByRecursion}
-use Rattle.std.proofs.lemmas.Int.{ints}
 use Rattle.spot_terms.specs.Frames.{IsFrameInOrder}
 use Rattle.spot_terms.specs.Hull.{IsCornerList}
 use Rattle.spot_terms.specs.Whole.{Within}

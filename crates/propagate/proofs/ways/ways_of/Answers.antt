@@ -3,7 +3,7 @@ use Rattle.std.specs.Prelude.{nat_abs}
 use Rattle.std.specs.Int.{int_max, int_min}
 use Rattle.std.specs.List.{AllByRecursion}
 use Rattle.std.proofs.lemmas.Int.{ints}
-use lib.IntN.{ℤ, pos, ◌+ℤ◌, ◌*ℤ◌}
+use lib.IntN.{ℤ, pos, ◌+ℤ◌}
 use Rattle.spot_terms.specs.declared.plain.Pt.{Pt}
 use Rattle.spot_terms.specs.Whole.{Within}
 use Rattle.spot_terms.proofs.ListLemmas.{all_included, includes_at}

@@ -7,7 +7,7 @@ use Rattle.spot_run.proofs.report.write_obstacles.Goals as goal
 use Rattle.spot_run.proofs.report.write_obstacles.Goals.{then-m-eq0+in_ok-write_mover, else-m-eq0+in_ok-write_late}
 
 pub loop-m-init : goal.loop-m-init
-loop-m-init g c = record { enough = c.requires.enough; lines = nothing_yet _ _ }
+loop-m-init g c = record { enough = omega (arith, c.requires.enough); lines = nothing_yet _ _ }
 
 pub write_mover-requires : goal.write_mover-requires
 write_mover-requires g c =

@@ -32,33 +32,33 @@ parts s steps o ps os e f =
 
 pub write_front-requires-clause-room : goal.write_front-requires-clause-room
 write_front-requires-clause-room g c =
-    takes_next {sink = g.K.Sink} (report_text (front_lines c.args.scenario.now c.args.steps c.list.result.now)) _ (nothing_yet c.args.sink.now _) (parts c.args.scenario.now c.args.steps c.args.prediction.now c.list.result.now _ c.list.ensures refl)
+    takes_next {sink = g.K.Sink} (report_text (front_lines c.args.scenario.now c.args.steps c.list-participants.result.now)) _ (nothing_yet c.args.sink.now _) (parts c.args.scenario.now c.args.steps c.args.prediction.now c.list-participants.result.now _ c.list-participants.ensures refl)
     (g.met.K.Sink.fewer c.args.sink.now) c.requires.room
 
 pub returns-in_err-write_front : goal.returns-in_err-write_front
 returns-in_err-write_front g c =
-    fault_next _ c.from_residual.result (nothing_yet _ _) (parts c.args.scenario.now c.args.steps c.args.prediction.now c.list.result.now _ c.list.ensures refl) c.in_err-write_front.ensures c.from_residual.ensures.0
+    fault_next _ c.from_residual.result (nothing_yet _ _) (parts c.args.scenario.now c.args.steps c.args.prediction.now c.list-participants.result.now _ c.list-participants.ensures refl) c.in_err-write_front.ensures c.from_residual.ensures.0
 
 pub write_octagons-requires : goal.write_octagons-requires
 write_octagons-requires g c =
     takes_next (report_text (map octagon_line c.fixed.result.now)) _
-    (next_written (nothing_yet _ _) (parts c.args.scenario.now c.args.steps c.args.prediction.now c.list.result.now c.fixed.result.now c.list.ensures c.fixed.ensures) c.in_ok-write_front.ensures) refl
+    (next_written (nothing_yet _ _) (parts c.args.scenario.now c.args.steps c.args.prediction.now c.list-participants.result.now c.fixed.result.now c.list-participants.ensures c.fixed.ensures) c.in_ok-write_front.ensures) refl
     (g.met.K.Sink.fewer c.write_front.new.sink) c.requires.room
 
 pub returns-in_err-write_octagons : goal.returns-in_err-write_octagons
 returns-in_err-write_octagons g c =
     fault_next _ c.from_residual-in_err-write_octagons.result
-    (next_written (nothing_yet _ _) (parts c.args.scenario.now c.args.steps c.args.prediction.now c.list.result.now c.fixed.result.now c.list.ensures c.fixed.ensures) c.in_ok-write_front.ensures) refl
+    (next_written (nothing_yet _ _) (parts c.args.scenario.now c.args.steps c.args.prediction.now c.list-participants.result.now c.fixed.result.now c.list-participants.ensures c.fixed.ensures) c.in_ok-write_front.ensures) refl
     c.in_err-write_octagons.ensures c.from_residual-in_err-write_octagons.ensures.0
 
 pub write_back-requires-clause-room : goal.write_back-requires-clause-room
 write_back-requires-clause-room g c =
     takes_rest
-    (next_written (next_written (nothing_yet _ _) (parts c.args.scenario.now c.args.steps c.args.prediction.now c.list.result.now c.fixed.result.now c.list.ensures c.fixed.ensures) c.in_ok-write_front.ensures) refl c.in_ok-write_octagons.ensures)
+    (next_written (next_written (nothing_yet _ _) (parts c.args.scenario.now c.args.steps c.args.prediction.now c.list-participants.result.now c.fixed.result.now c.list-participants.ensures c.fixed.ensures) c.in_ok-write_front.ensures) refl c.in_ok-write_octagons.ensures)
     c.requires.room
 
 pub returns : goal.returns
 returns g c =
     last_written
-    (next_written (next_written (nothing_yet _ _) (parts c.args.scenario.now c.args.steps c.args.prediction.now c.list.result.now c.fixed.result.now c.list.ensures c.fixed.ensures) c.in_ok-write_front.ensures) refl c.in_ok-write_octagons.ensures)
+    (next_written (next_written (nothing_yet _ _) (parts c.args.scenario.now c.args.steps c.args.prediction.now c.list-participants.result.now c.fixed.result.now c.list-participants.ensures c.fixed.ensures) c.in_ok-write_front.ensures) refl c.in_ok-write_octagons.ensures)
     c.write_back.ensures

@@ -1,6 +1,0 @@
-use Rattle.std.proofs.Common.{◌≡◌, ◌++◌, take}
-use Rattle.convex_poly.specs.Pivots.{each_minus}
-use Rattle.lane_paths.proofs.gaps.push_ways.Given as goal
-
-abbrev pub invariant-loop-q : goal.invariant-loop-q
-invariant-loop-q g l = l.ways.items ≡ l.initial.ways.items ++ each_minus l.p (take l.q-index l.b)

@@ -1,6 +1,0 @@
-use Rattle.std.proofs.Common.{◌≡◌, take}
-use Rattle.convex_poly.specs.Pivots.{differences}
-use Rattle.lane_paths.proofs.gaps.span_of_at_most.Given as goal
-
-abbrev pub invariant-loop-p : goal.invariant-loop-p
-invariant-loop-p g l = l.ways.items ≡ differences (take l.p-index l.a) l.b

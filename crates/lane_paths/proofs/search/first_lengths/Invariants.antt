@@ -1,5 +1,0 @@
-use Rattle.lane_paths.proofs.LengthLists.{AreNone}
-use Rattle.lane_paths.proofs.search.first_lengths.Given as goal
-
-abbrev pub invariant-loop : goal.invariant-loop
-invariant-loop l = AreNone l.counter l.lengths.items

@@ -1,0 +1,429 @@
+-- What a run says of its answer, by how far it came.
+use Rattle.std.proofs.Common.{◌≡◌, ◌≢◌, ◌∙◌, ◌⊎◌, inl, inr, ℕ, ◌<◌, ◌≤◌, List, [], length, Option, Some, Err, refl, sym, ap, subst, arith}
+use Rattle.std.specs.Prelude.{IfSome}
+use Rattle.spot_terms.specs.Causes.{Takes}
+use Rattle.spot_terms.specs.Ids.{HaveUniqueIds}
+use Rattle.spot_terms.specs.Ranges.{IsInRange}
+use Rattle.spot_terms.specs.Statuses.{IsDone}
+use Rattle.spot_terms.specs.Tasks.{ReadsInput, PredictsTraffic}
+use Rattle.spot_terms.specs.declared.command.Command.{Command}
+use Rattle.spot_terms.specs.declared.command.Task.{Task}
+use Rattle.spot_terms.specs.declared.command.Task.TheVariants.{Predict}
+use Rattle.spot_terms.specs.declared.scenario.Scenario.{Scenario}
+use Rattle.spot_terms.specs.declared.status.Code.{Code}
+use Rattle.spot_terms.specs.declared.status.Code.TheVariants.{NotJson, NotTree, NoProblem, LateProblem, EgoTooFast, NotYet}
+use Rattle.spot_terms.specs.declared.status.Which.TheVariants.{TooLong, TooManyCells, LaneTooWide, TooManyLanePolygons, AreaTooWide, TooManyBoxes}
+use Rattle.spot_terms.specs.declared.status.Status.{Status}
+use Rattle.spot_terms.specs.declared.status.Status.TheVariants.{Open, Empty, BadWords, Refused, Limit, ReadFault, WriteFault, Memory}
+use Rattle.spot_tree.proofs.Readings.{one_tree, one_place, tree_is_json, fault_is_json, tree_has_no_fault}
+use Rattle.scenario.proofs.OneRefusal.{one_refusal}
+use Rattle.lanelets.specs.Buildable.{AreBuildable}
+use Rattle.spot_claims.specs.Answers.{IsOutside, ExactlyWhere, BadWordsExactly, ReadFaultOnly, TooLongExactly, NotJsonExactly, NotTreeExactly, IsRefusedAt, IsOfCheck, RefusedExactly, ExactlyFor, HasNoProblem, NoProblemExactly, HasLateProblem, LateProblemExactly, HasFastProblem, EgoTooFastExactly, HasManyCells, TooManyCellsExactly, HasWideLane, LaneTooWideExactly, HasManyPairs, TooManyLanePolygonsExactly, HasWideArea, AreaTooWideExactly, HasManyBoxes, TooManyBoxesExactly, WriteFaultOnly, NotYetExactly, AreFor, IsKnownAs, IsKnown}
+use Rattle.spot_claims.specs.Built.{IsBuilt, IsBuiltWhole}
+use Rattle.spot_claims.specs.Headline.{Headline}
+use Rattle.spot_claims.specs.Outcomes.{IsAfterReading, ReadsSource, IsAcceptedInput, PassesAll, Fails, Completes, WritesOutput}
+use Rattle.spot_claims.specs.Outputs.{IsWritten}
+use Rattle.spot_claims.specs.Profile.{IsAccepted, IsRefused}
+use Rattle.spot_claims.specs.Runs.{Run, ReadFails, WriteFails}
+use Rattle.spot_claims.specs.Scenario.{IsScenarioOf}
+use Rattle.spot_claims.specs.Stages.{most_bytes, AreNoCommand, AreForReading, IsRead, IsInput, IsAccepting, IsWithinTraffic}
+use Rattle.spot_claims.specs.Tree.{Element, IsTreeOf, IsNoJson, HasFaultAt}
+use Rattle.spot_run.specs.Loads.{IsReadWhole, Loads, IsLoadFault}
+use Rattle.spot_run.specs.Writes.{WritesPrediction}
+use Rattle.spot_run.proofs.Limits.{exactly_for, past_none, too_many_cells, lane_too_wide, too_many_lane_polygons}
+use Rattle.spot_run.proofs.Runs.{IsForPrediction, read_some, HasLoaded, for_reading, reads_input, predicts, finds_none, is_built, input_of, headline, output}
+
+-- all that is said of a run
+pub record AllHold (run : Run) : Type 0 where
+  pub headline : Headline run
+  pub output : WritesOutput run
+  pub source_read : ReadsSource run
+  pub known : IsKnown run
+  pub bad_words : BadWordsExactly run
+  pub not_yet : NotYetExactly run
+  pub read_fault : ReadFaultOnly run
+  pub too_long : TooLongExactly run
+  pub not_json : NotJsonExactly run
+  pub not_tree : NotTreeExactly run
+  pub refused : RefusedExactly run
+  pub no_problem : NoProblemExactly run
+  pub late_problem : LateProblemExactly run
+  pub ego_too_fast : EgoTooFastExactly run
+  pub too_many_cells : TooManyCellsExactly run
+  pub lane_too_wide : LaneTooWideExactly run
+  pub too_many_lane_polygons : TooManyLanePolygonsExactly run
+  pub area_too_wide : AreaTooWideExactly run
+  pub too_many_boxes : TooManyBoxesExactly run
+  pub write_fault : WriteFaultOnly run
+  pub complete : Completes run
+
+-- ---- where a cause can't be
+
+-- neither the answer nor its cause
+never : {Cause : Type 0} {answer status : Status} → status ≢ answer → (Cause → ⊥) → ExactlyWhere Cause answer status
+never other none = record { only = λ e. absurd (other e); comes = λ cause. absurd (none cause) }
+
+no_headline : (run : Run) → (IsDone run.status → ⊥) → Headline run
+no_headline run none = λ s c text lines r fits same. absurd (none r.done)
+
+no_output : (run : Run) → (IsWritten run.status → ⊥) → WritesOutput run
+no_output run none = λ c old stands told before written. absurd (none written)
+
+-- ---- words for no command
+
+pub no_command_holds : (run : Run) → run.status ≡ BadWords → AreNoCommand run → AllHold run
+no_command_holds run e nothing = record {
+  headline = no_headline run (λ done. subst IsDone e done);
+  output = no_output run (λ written. subst IsWritten e written);
+  source_read = record {
+    whole = λ bytes told for later. absurd (subst IsAfterReading e later);
+    limit = λ bytes step count told f. absurd (other (Limit TooLong step count) (λ g. cc) f);
+  };
+  known = subst (λ status. IsKnownAs status run) (sym e) tt;
+  bad_words = record { only = λ f. nothing; comes = λ none. inl e };
+  not_yet = record {
+    only = λ f. absurd (other (Refused NotYet 0) (λ g. cc) f);
+    never = λ c stands whole f. nothing c stands;
+    comes = λ (c, stands, not). absurd (nothing c stands);
+    scenario = λ c stands built told. absurd (nothing c stands);
+  };
+  read_fault = λ f. absurd (other ReadFault (λ g. cc) f);
+  too_long = λ bytes told. never (other (Limit TooLong 0 67108865) (λ g. cc)) (λ cause. unread cause.0);
+  not_json = λ bytes told. never (other (Refused NotJson 0) (λ g. cc)) (λ cause. unread cause.0.reads);
+  not_tree = λ bytes place told. never (other (Refused NotTree place) (λ g. cc)) (λ cause. unread cause.0.reads);
+  refused = λ bytes code place told of. never (other (Refused code place) (λ g. cc)) (λ cause. unread cause.0.reads);
+  no_problem = λ c stands told. absurd (nothing c stands);
+  late_problem = λ place c stands told. absurd (nothing c stands);
+  ego_too_fast = λ place c stands told. absurd (nothing c stands);
+  too_many_cells = λ count c stands told. absurd (nothing c stands);
+  lane_too_wide = λ id c stands told. absurd (nothing c stands);
+  too_many_lane_polygons = λ count c stands told. absurd (nothing c stands);
+  area_too_wide = λ step count c stands told. absurd (nothing c stands);
+  too_many_boxes = λ step count c stands told. absurd (nothing c stands);
+  write_fault = λ f. absurd (other WriteFault (λ g. cc) f);
+  complete = λ c bytes stands built input accepted passes none. absurd (nothing c stands);
+}
+  where
+    other : (answer : Status) → (BadWords ≡ answer → ⊥) → run.status ≡ answer → ⊥
+    other answer not f = not (sym e ∙ f)
+
+    unread : AreForReading run → ⊥
+    unread (c, stands, built, reads) = nothing c stands
+
+-- ---- words for a task that isn't built
+
+whole_is_built : (task : Task) → IsBuiltWhole task → IsBuilt task
+whole_is_built Predict h = tt
+whole_is_built task h = absurd h
+
+not_built_holds : (run : Run) (c : Command) → run.status ≡ Refused NotYet 0 → run.Stands c → ((d : Command) → run.Stands d → d ≡ c) → (IsBuilt c.task → ⊥) → AllHold run
+not_built_holds run c e own only not = record {
+  headline = no_headline run (λ done. subst IsDone e done);
+  output = no_output run (λ written. subst IsWritten e written);
+  source_read = record {
+    whole = λ bytes told for later. absurd (unread for);
+    limit = λ bytes step count told f. absurd (other (Limit TooLong step count) (λ g. cc) f);
+  };
+  known = subst (λ status. IsKnownAs status run) (sym e) refl;
+  bad_words = record { only = λ f. absurd (other BadWords (λ g. cc) f); comes = λ none. absurd (none c own) };
+  not_yet = record {
+    only = λ f. (c, own, λ whole. not (whole_is_built c.task whole));
+    never = λ d stands whole f. unbuilt d stands (whole_is_built d.task whole);
+    comes = λ other. inl e;
+    scenario = λ d stands built told. absurd (unbuilt d stands built);
+  };
+  read_fault = λ f. absurd (other ReadFault (λ g. cc) f);
+  too_long = λ bytes told. never (other (Limit TooLong 0 67108865) (λ g. cc)) (λ cause. unread cause.0);
+  not_json = λ bytes told. never (other (Refused NotJson 0) (λ g. cc)) (λ cause. unread cause.0.reads);
+  not_tree = λ bytes place told. never (other (Refused NotTree place) (λ g. cc)) (λ cause. unread cause.0.reads);
+  refused = λ bytes code place told of. never (other (Refused code place) (code_other code place of)) (λ cause. unread cause.0.reads);
+  no_problem = λ d stands told. never (other (Refused NoProblem 0) (λ g. cc)) (λ (s, accepting, cause). unbuilt d stands accepting.built);
+  late_problem = λ place d stands told. never (other (Refused LateProblem place) (λ g. cc)) (λ (s, accepting, cause). unbuilt d stands accepting.built);
+  ego_too_fast = λ place d stands told. never (other (Refused EgoTooFast place) (λ g. cc)) (λ (s, accepting, cause). unbuilt d stands accepting.built);
+  too_many_cells = λ count d stands told. never (other (Limit TooManyCells 0 count) (λ g. cc)) (λ (s, accepting, cause). unbuilt d stands accepting.built);
+  lane_too_wide = λ id d stands told. never (other (Limit LaneTooWide 0 id) (λ g. cc)) (λ (s, accepting, cause). unbuilt d stands accepting.built);
+  too_many_lane_polygons = λ count d stands told. never (other (Limit TooManyLanePolygons 0 count) (λ g. cc)) (λ (s, accepting, cause). unbuilt d stands accepting.built);
+  area_too_wide = λ step count d stands told. never (other (Limit AreaTooWide step count) (λ g. cc)) (λ (s, accepting, cause). unbuilt d stands accepting.built);
+  too_many_boxes = λ step count d stands told. never (other (Limit TooManyBoxes step count) (λ g. cc)) (λ (s, accepting, cause). unbuilt d stands accepting.built);
+  write_fault = λ f. absurd (other WriteFault (λ g. cc) f);
+  complete = λ d bytes stands built input accepted passes none. absurd (unbuilt d stands built);
+}
+  where
+    other : (answer : Status) → (Refused NotYet 0 ≡ answer → ⊥) → run.status ≡ answer → ⊥
+    other answer ne f = ne (sym e ∙ f)
+
+    unbuilt : (d : Command) → run.Stands d → IsBuilt d.task → ⊥
+    unbuilt d stands built = not (subst (λ (x : Command). IsBuilt x.task) (only d stands) built)
+
+    unread : AreForReading run → ⊥
+    unread (d, stands, built, reads) = unbuilt d stands built
+
+    same_code : (code : Code) (place : ℕ) → Refused NotYet 0 ≡ Refused code place → NotYet ≡ code
+    same_code code place g = cc
+
+    code_other : (code : Code) (place : ℕ) → IsOfCheck code → Refused NotYet 0 ≡ Refused code place → ⊥
+    code_other code place of g = subst IsOfCheck (sym (same_code code place g)) of
+
+-- ---- a fault of loading
+
+-- what loading answered
+pub record HasFailed (run : Run) (c : Command) : Type 0 where
+  pub for : IsForPrediction run c
+  pub told : (bytes : List ℕ) → run.told ≡ Some bytes → Loads bytes run.left (Err run.status)
+  pub fault : IsLoadFault run.status
+  pub read : run.status ≡ ReadFault → ReadFails run
+
+fault_not_done : (status : Status) → IsLoadFault status → IsDone status → ⊥
+fault_not_done Open fault done = fault
+fault_not_done (Empty i) fault done = fault
+fault_not_done status fault done = done
+
+fault_not_written : (status : Status) → IsLoadFault status → IsWritten status → ⊥
+fault_not_written Open fault written = fault
+fault_not_written (Empty i) fault written = fault
+fault_not_written WriteFault fault written = fault
+fault_not_written status fault written = written
+
+-- each command that the words stand for is the one that was read
+each_for : (HasStage : Task → Type 0) (run : Run) (c : Command) → IsForPrediction run c → HasStage c.task → AreFor HasStage run
+each_for HasStage run c for h = λ d stands. subst (λ (x : Command). HasStage x.task) (sym (for.only d stands)) h
+
+fault_known : (run : Run) (status : Status) → IsLoadFault status → AreFor ReadsInput run → IsKnownAs status run
+fault_known run ReadFault fault reads = tt
+fault_known run Memory fault reads = tt
+fault_known run (Limit TooLong step count) fault reads = (fault.0, fault.1, reads)
+fault_known run (Refused NotJson place) fault reads = (fault, reads)
+fault_known run (Refused NotTree place) fault reads = reads
+fault_known run (Refused NoProblem place) fault reads = absurd fault
+fault_known run (Refused LateProblem place) fault reads = absurd fault
+fault_known run (Refused EgoTooFast place) fault reads = absurd fault
+fault_known run (Refused NotYet place) fault reads = absurd fault
+fault_known run (Refused code place) fault reads = (fault, reads)
+fault_known run status fault reads = absurd fault
+
+after_whole : (bytes : List ℕ) (left : Option (List ℕ)) (status : Status) → IsAfterReading status → Loads bytes left (Err status) → left ≡ Some []
+after_whole bytes left ReadFault later loads = absurd later
+after_whole bytes left Memory later loads = absurd later
+after_whole bytes left (Limit TooLong step count) later loads = absurd later
+after_whole bytes left (Refused NotJson place) later loads = loads.0.1
+after_whole bytes left (Refused NotTree place) later loads = loads.0.1
+after_whole bytes left (Refused code place) later loads = loads.0.1
+after_whole bytes left status later loads = absurd loads
+
+too_many : (bytes : List ℕ) → length bytes ≤ most_bytes → most_bytes < length bytes → ⊥
+too_many bytes few many = omega (arith, few, many)
+
+too_long_of : (run : Run) (bytes : List ℕ) (left : Option (List ℕ)) (status : Status) → AreForReading run → Loads bytes left (Err status) → IsLoadFault status → ExactlyWhere (AreForReading run × (most_bytes < length bytes)) (Limit TooLong 0 67108865) status
+too_long_of run bytes left ReadFault for h k = record { only = λ e. cc; comes = λ _. inr (inr refl) }
+too_long_of run bytes left Memory for h k = record { only = λ e. cc; comes = λ _. inr (inl refl) }
+too_long_of run bytes left (Limit TooLong step count) for h k = record { only = λ e. (for, h.0); comes = λ _. inl (rw (k.0, k.1) refl) }
+too_long_of run bytes left (Refused NotJson place) for h k = record { only = λ e. cc; comes = λ cause. absurd (too_many bytes h.0.0 cause.1) }
+too_long_of run bytes left (Refused NotTree place) for h k = record { only = λ e. cc; comes = λ cause. absurd (too_many bytes h.0.0 cause.1) }
+too_long_of run bytes left (Refused code place) for h k = record { only = λ e. cc; comes = λ cause. absurd (too_many bytes h.0.0 cause.1) }
+too_long_of run bytes left status for h k = absurd k
+
+-- bytes aren't of an accepted tree and refused
+not_both : (bytes : List ℕ) (tree : List Element) (code : Code) (place : ℕ) → IsTreeOf bytes tree → IsAccepted tree → IsRefusedAt bytes code place → ⊥
+not_both bytes tree code place tree_is accepted (other, other_is, refused) = subst IsAccepted (one_tree bytes tree other tree_is other_is) accepted place refused.number code refused.fails
+
+not_refused : (bytes : List ℕ) (s : Scenario) (code : Code) (place : ℕ) → IsScenarioOf bytes s → IsRefusedAt bytes code place → ⊥
+not_refused bytes s code place (tree, tree_is, scenario) refused = not_both bytes tree code place tree_is scenario.accepted refused
+
+-- a fault of loading doesn't come where the bytes are those of a scenario
+outside_at : (bytes : List ℕ) (left : Option (List ℕ)) (tree : List Element) (status : Status) → Loads bytes left (Err status) → IsLoadFault status → length bytes ≤ most_bytes → IsTreeOf bytes tree → IsAccepted tree → IsOutside status
+outside_at bytes left tree ReadFault h k few tree_is accepted = inr refl
+outside_at bytes left tree Memory h k few tree_is accepted = inl refl
+outside_at bytes left tree (Limit TooLong step count) h k few tree_is accepted = absurd (too_many bytes few h.0)
+outside_at bytes left tree (Refused NotJson place) h k few tree_is accepted = absurd (tree_is_json bytes tree tree_is h.1)
+outside_at bytes left tree (Refused NotTree place) h k few tree_is accepted = absurd (tree_has_no_fault bytes tree place tree_is h.1)
+outside_at bytes left tree (Refused code place) h k few tree_is accepted = absurd (not_both bytes tree code place tree_is accepted h.1)
+outside_at bytes left tree status h k few tree_is accepted = absurd k
+
+same_code : (a b : Code) (p q : ℕ) → Refused a p ≡ Refused b q → a ≡ b
+same_code a b p q e = cc
+
+same_place : (a b : Code) (p q : ℕ) → Refused a p ≡ Refused b q → p ≡ q
+same_place a b p q e = cc
+
+-- bytes are refused in one way at most
+same_refusal : (bytes : List ℕ) (code reason : Code) (place other : ℕ) → IsRefusedAt bytes code place → IsRefusedAt bytes reason other → Refused reason other ≡ Refused code place
+same_refusal bytes code reason place other (tree, tree_is, refused) (again, again_is, first) =
+    let one = one_refusal bytes again place other code reason again_is (subst (λ x. IsRefused x place code) (one_tree bytes tree again tree_is again_is) refused) first in
+    sym (ap (λ p. Refused code p) one.0 ∙ ap (λ c. Refused c other) one.1)
+
+-- the refusal of a loading that answered a status
+refused_of : (run : Run) (bytes : List ℕ) (code : Code) (place : ℕ) (left : Option (List ℕ)) (status : Status) → IsOfCheck code → AreForReading run → Loads bytes left (Err status) → IsLoadFault status
+    → ExactlyWhere (IsRead run bytes × IsRefusedAt bytes code place) (Refused code place) status
+refused_of run bytes code place left ReadFault of for h k = record { only = λ e. cc; comes = λ cause. inr (inr refl) }
+refused_of run bytes code place left Memory of for h k = record { only = λ e. cc; comes = λ cause. inr (inl refl) }
+refused_of run bytes code place left (Limit TooLong step count) of for h k = record { only = λ e. cc; comes = λ cause. absurd (too_many bytes cause.0.few h.0) }
+refused_of run bytes code place left (Refused NotJson other) of for h k = record { only = λ e. absurd (subst IsOfCheck (sym (same_code NotJson code other place e)) of); comes = λ cause. absurd (tree_is_json bytes cause.1.0 cause.1.1 h.1) }
+refused_of run bytes code place left (Refused NotTree other) of for h k = record { only = λ e. absurd (subst IsOfCheck (sym (same_code NotTree code other place e)) of); comes = λ cause. absurd (tree_has_no_fault bytes cause.1.0 other cause.1.1 h.1) }
+refused_of run bytes code place left (Refused answered other) of for h k = record {
+  only = λ e. (record { reads = for; few = h.0.0 }, subst (λ c. IsRefusedAt bytes c place) (same_code answered code other place e) (subst (IsRefusedAt bytes answered) (same_place answered code other place e) h.1));
+  comes = λ cause. inl (same_refusal bytes code answered place other cause.1 h.1);
+}
+refused_of run bytes code place left status of for h k = absurd k
+
+not_json_of : (run : Run) (bytes : List ℕ) (left : Option (List ℕ)) (status : Status) → AreForReading run → Loads bytes left (Err status) → IsLoadFault status → ExactlyWhere (IsRead run bytes × IsNoJson bytes) (Refused NotJson 0) status
+not_json_of run bytes left ReadFault for h k = record { only = λ e. cc; comes = λ _. inr (inr refl) }
+not_json_of run bytes left Memory for h k = record { only = λ e. cc; comes = λ _. inr (inl refl) }
+not_json_of run bytes left (Limit TooLong step count) for h k = record { only = λ e. cc; comes = λ cause. absurd (too_many bytes cause.0.few h.0) }
+not_json_of run bytes left (Refused NotJson place) for h k = record { only = λ e. (record { reads = for; few = h.0.0 }, h.1); comes = λ _. inl (ap (λ (p : ℕ). Refused NotJson p) k) }
+not_json_of run bytes left (Refused NotTree place) for h k = record { only = λ e. cc; comes = λ cause. absurd (fault_is_json bytes place h.1 cause.1) }
+not_json_of run bytes left (Refused code place) for h k = record {
+  only = λ e. absurd (subst IsOfCheck (same_code code NotJson place 0 e) k);
+  comes = λ cause. absurd (tree_is_json bytes h.1.0 h.1.1 cause.1);
+}
+not_json_of run bytes left status for h k = absurd k
+
+not_tree_of : (run : Run) (bytes : List ℕ) (place : ℕ) (left : Option (List ℕ)) (status : Status) → AreForReading run → Loads bytes left (Err status) → IsLoadFault status → ExactlyWhere (IsRead run bytes × HasFaultAt bytes place) (Refused NotTree place) status
+not_tree_of run bytes place left ReadFault for h k = record { only = λ e. cc; comes = λ _. inr (inr refl) }
+not_tree_of run bytes place left Memory for h k = record { only = λ e. cc; comes = λ _. inr (inl refl) }
+not_tree_of run bytes place left (Limit TooLong step count) for h k = record { only = λ e. cc; comes = λ cause. absurd (too_many bytes cause.0.few h.0) }
+not_tree_of run bytes place left (Refused NotJson other) for h k = record { only = λ e. cc; comes = λ cause. absurd (fault_is_json bytes place cause.1 h.1) }
+not_tree_of run bytes place left (Refused NotTree other) for h k = record {
+  only = λ e. (record { reads = for; few = h.0.0 }, subst (HasFaultAt bytes) (same_place NotTree NotTree other place e) h.1);
+  comes = λ cause. inl (ap (λ (p : ℕ). Refused NotTree p) (one_place bytes other place h.1 cause.1));
+}
+not_tree_of run bytes place left (Refused code other) for h k = record {
+  only = λ e. absurd (subst IsOfCheck (same_code code NotTree other place e) k);
+  comes = λ cause. absurd (tree_has_no_fault bytes h.1.0 place h.1.1 cause.1);
+}
+not_tree_of run bytes place left status for h k = absurd k
+
+limit_of : (bytes : List ℕ) (left : Option (List ℕ)) (status : Status) (step count : ℕ) → Loads bytes left (Err status) → status ≡ Limit TooLong step count → Takes 67108865 bytes left
+limit_of bytes left status step count loads e = (subst (λ (x : Status). Loads bytes left (Err x)) e loads).1
+
+-- an accepted input leaves only want of memory and a read fault
+accepted_outside : (run : Run) (c : Command) (t : Scenario) → HasFailed run c → IsAccepting c run.told t → IsOutside run.status
+accepted_outside run c t h accepting =
+    let (told, few) = input_of c h.for.task run.told accepting.bytes accepting.input in
+    let (tree, tree_is, scenario) = accepting.scenario in
+    outside_at accepting.bytes run.left tree run.status (h.told accepting.bytes told) h.fault few tree_is scenario.accepted
+
+-- a cause of an accepted scenario: the answer is no fault of loading
+after_fault : (run : Run) (c : Command) (Cause : Scenario → Command → Type 0) (answer : Status) → HasFailed run c → (IsLoadFault answer → ⊥) → ExactlyFor run Cause answer
+after_fault run c Cause answer h other = exactly_for run c Cause answer h.for (λ bytes told. record {
+  only = λ e. absurd (other (subst IsLoadFault e h.fault));
+  comes = λ (t, accepting, cause). inr (accepted_outside run c t h accepting);
+})
+
+-- what is said of the completion of the command that was read is said of each that the words stand for
+complete_for : (run : Run) (c : Command) → IsForPrediction run c
+    → ((bytes : List ℕ) (tree : List Element) → run.told ≡ Some bytes → length bytes ≤ most_bytes → IsTreeOf bytes tree → IsAccepted tree → ((s : Scenario) → IsScenarioOf bytes s → PassesAll s c) → (Fails run → ⊥) → IsDone run.status ⊎ (run.status ≡ Memory))
+    → Completes run
+complete_for run c for at = λ d bytes stands. subst (λ (x : Command). IsBuilt x.task → IsInput x run.told bytes → IsAcceptedInput x bytes → ((s : Scenario) → IsScenarioOf bytes s → PassesAll s x) → (Fails run → ⊥) → IsDone run.status ⊎ (run.status ≡ Memory))
+    (sym (for.only d stands))
+    (λ built input accepted passes none.
+    let (told, few) = input_of c for.task run.told bytes input in
+    let (tree, tree_is, is) = accepted (reads_input c for.task) in at bytes tree told few tree_is is passes none)
+
+fault_holds : (run : Run) (c : Command) → HasFailed run c → AllHold run
+fault_holds run c h = record {
+  headline = no_headline run (fault_not_done run.status h.fault);
+  output = no_output run (fault_not_written run.status h.fault);
+  source_read = record {
+    whole = λ bytes told for later. after_whole bytes run.left run.status later (h.told bytes told);
+    limit = λ bytes step count told e. limit_of bytes run.left run.status step count (h.told bytes told) e;
+  };
+  known = fault_known run run.status h.fault (each_for ReadsInput run c h.for (reads_input c h.for.task));
+  bad_words = record { only = λ e. absurd (subst IsLoadFault e h.fault); comes = λ none. absurd (none c h.for.stands) };
+  not_yet = record {
+    only = λ e. absurd (subst IsLoadFault e h.fault);
+    never = λ d stands whole e. subst IsLoadFault e h.fault;
+    comes = λ (d, stands, not). absurd (not (subst (λ (x : Command). IsBuilt x.task) (sym (h.for.only d stands)) (is_built c h.for.task)));
+    scenario = λ d stands built told. never (λ e. subst IsLoadFault e h.fault) (λ (t, accepting, cause). cause.left_out tt);
+  };
+  read_fault = λ e. (for_reading run c h.for, h.read e);
+  too_long = λ bytes told. too_long_of run bytes run.left run.status (for_reading run c h.for) (h.told bytes told) h.fault;
+  not_json = λ bytes told. not_json_of run bytes run.left run.status (for_reading run c h.for) (h.told bytes told) h.fault;
+  not_tree = λ bytes place told. not_tree_of run bytes place run.left run.status (for_reading run c h.for) (h.told bytes told) h.fault;
+  refused = λ bytes code place told of. refused_of run bytes code place run.left run.status of (for_reading run c h.for) (h.told bytes told) h.fault;
+  no_problem = after_fault run c HasNoProblem (Refused NoProblem 0) h (λ f. f);
+  late_problem = λ place. after_fault run c (HasLateProblem place) (Refused LateProblem place) h (λ f. f);
+  ego_too_fast = λ place. after_fault run c (HasFastProblem place) (Refused EgoTooFast place) h (λ f. f);
+  too_many_cells = λ count. after_fault run c (HasManyCells count) (Limit TooManyCells 0 count) h (λ f. f);
+  lane_too_wide = λ id. after_fault run c (HasWideLane id) (Limit LaneTooWide 0 id) h (λ f. f);
+  too_many_lane_polygons = λ count. after_fault run c (HasManyPairs count) (Limit TooManyLanePolygons 0 count) h (λ f. f);
+  area_too_wide = λ step count. after_fault run c (HasWideArea step count) (Limit AreaTooWide step count) h (λ f. f);
+  too_many_boxes = λ step count. after_fault run c (HasManyBoxes step count) (Limit TooManyBoxes step count) h (λ f. f);
+  write_fault = λ e. absurd (subst IsLoadFault e h.fault);
+  complete = complete_for run c h.for (λ bytes tree told few tree_is is passes none. elim (outside_at bytes run.left tree run.status (h.told bytes told) h.fault few tree_is is) [
+    | inl memory ↦ inr memory
+    | inr read ↦ absurd (none (inl (for_reading run c h.for, h.read read)))
+  ]);
+}
+
+-- ---- a scenario that was loaded
+
+-- an answer that writing a prediction doesn't give, of a stage that a prediction hasn't
+not_of_prediction : (run : Run) (c : Command) (s : Scenario) (Cause : Scenario → Command → Type 0) (answer : Status) → HasLoaded run c s → (WritesPrediction s c.steps run.before run.after answer → ⊥) → ((t : Scenario) → Cause t c → ⊥) → ExactlyFor run Cause answer
+not_of_prediction run c s Cause answer h other none = exactly_for run c Cause answer h.for (λ bytes told. never (λ e. other (subst (WritesPrediction s c.steps run.before run.after) e h.written)) (λ (t, accepting, cause). none t cause))
+
+written_known : (run : Run) (s : Scenario) (steps : ℕ) (before after : Option (List ℕ)) (status : Status) → WritesPrediction s steps before after status → AreFor PredictsTraffic run → IsKnownAs status run
+written_known run s steps before after Open h for = tt
+written_known run s steps before after WriteFault h for = tt
+written_known run s steps before after Memory h for = tt
+written_known run s steps before after (Limit TooManyCells step count) h for = (h.0, for)
+written_known run s steps before after (Limit LaneTooWide step id) h for = (h.0, for)
+written_known run s steps before after (Limit TooManyLanePolygons step count) h for = (h.0, for)
+written_known run s steps before after status h for = absurd h
+
+written_done : (run : Run) (s : Scenario) (c : Command) (status : Status) → (status ≡ WriteFault → WriteFails run) → WritesPrediction s c.steps run.before run.after status → IsWithinTraffic s c → (Fails run → ⊥) → IsDone status ⊎ (status ≡ Memory)
+written_done run s c Open cause h within none = inl tt
+written_done run s c WriteFault cause h within none = absurd (none (inr (cause refl)))
+written_done run s c status cause h within none = inr (past_none s c.steps status within.network within.pairs h)
+
+loaded_holds : (run : Run) (c : Command) (s : Scenario) → HasLoaded run c s → AllHold run
+loaded_holds run c s h = record {
+  headline = headline run c s h;
+  output = output run c s h;
+  source_read = record {
+    whole = λ bytes told for later. (h.told bytes told).0.1;
+    limit = λ bytes step count told e. absurd (not (Limit TooLong step count) (λ w. w) e);
+  };
+  known = written_known run s c.steps run.before run.after run.status h.written (each_for PredictsTraffic run c h.for (predicts c h.for.task));
+  bad_words = record { only = λ e. absurd (not BadWords (λ w. w) e); comes = λ none. absurd (none c h.for.stands) };
+  not_yet = record {
+    only = λ e. absurd (not (Refused NotYet 0) (λ w. w) e);
+    never = λ d stands whole e. not (Refused NotYet 0) (λ w. w) e;
+    comes = λ (d, stands, unbuilt). absurd (unbuilt (subst (λ (x : Command). IsBuilt x.task) (sym (h.for.only d stands)) (is_built c h.for.task)));
+    scenario = λ d stands built told. never (not (Refused NotYet 0) (λ w. w)) (λ (t, accepting, cause). cause.left_out tt);
+  };
+  read_fault = λ e. absurd (not ReadFault (λ w. w) e);
+  too_long = λ bytes told. never (not (Limit TooLong 0 67108865) (λ w. w)) (λ cause. too_many bytes (h.told bytes told).0.0 cause.1);
+  not_json = λ bytes told. never (not (Refused NotJson 0) (λ w. w)) (λ cause. let (tree, tree_is, scenario) = (h.told bytes told).1 in tree_is_json bytes tree tree_is cause.1);
+  not_tree = λ bytes place told. never (not (Refused NotTree place) (λ w. w)) (λ cause. let (tree, tree_is, scenario) = (h.told bytes told).1 in tree_has_no_fault bytes tree place tree_is cause.1);
+  refused = λ bytes code place told of. never (not (Refused code place) (λ w. w)) (λ cause. not_refused bytes s code place (h.told bytes told).1 cause.1);
+  no_problem = not_of_prediction run c s HasNoProblem (Refused NoProblem 0) h (λ w. w) (λ t cause. finds_none c h.for.task cause.finds);
+  late_problem = λ place. not_of_prediction run c s (HasLateProblem place) (Refused LateProblem place) h (λ w. w) (λ t cause. finds_none c h.for.task cause.finds);
+  ego_too_fast = λ place. not_of_prediction run c s (HasFastProblem place) (Refused EgoTooFast place) h (λ w. w) (λ t cause. finds_none c h.for.task cause.finds);
+  too_many_cells = too_many_cells run c s h;
+  lane_too_wide = lane_too_wide run c s h;
+  too_many_lane_polygons = too_many_lane_polygons run c s h;
+  area_too_wide = λ step count. not_of_prediction run c s (HasWideArea step count) (Limit AreaTooWide step count) h (λ w. w) (λ t cause. finds_none c h.for.task cause.passing.finds);
+  too_many_boxes = λ step count. not_of_prediction run c s (HasManyBoxes step count) (Limit TooManyBoxes step count) h (λ w. w) (λ t cause. finds_none c h.for.task cause.passing.finds);
+  write_fault = h.cause;
+  complete = complete_for run c h.for (λ bytes tree told few tree_is is passes none.
+      written_done run s c run.status h.cause h.written ((passes s (h.told bytes told).1).within.traffic (predicts c h.for.task)) none);
+}
+  where
+    not : (answer : Status) → (WritesPrediction s c.steps run.before run.after answer → ⊥) → run.status ≡ answer → ⊥
+    not answer other e = other (subst (WritesPrediction s c.steps run.before run.after) e h.written)
+
+-- ---- by what loading and writing say
+
+pub loaded : (run : Run) (c : Command) (s : Scenario) → IsForPrediction run c → ((bytes : List ℕ) → run.told ≡ Some bytes → IsReadWhole bytes run.left × IsScenarioOf bytes s) → IsInRange s → HaveUniqueIds s → AreBuildable s.lanelets.entries
+    → WritesPrediction s c.steps run.before run.after run.status → (run.status ≡ WriteFault → WriteFails run) → AllHold run
+loaded run c s for told range ids lanes written cause = loaded_holds run c s (record { for = for; told = told; range = range; ids = ids; lanes = lanes; written = written; cause = cause })
+
+pub failed : (run : Run) (c : Command) → IsForPrediction run c → ((bytes : List ℕ) → run.told ≡ Some bytes → Loads bytes run.left (Err run.status)) → IsLoadFault run.status → (run.status ≡ ReadFault → ReadFails run) → AllHold run
+failed run c for told fault read = fault_holds run c (record { for = for; told = told; fault = fault; read = read })
+
+unbuilt_task : (task : Task) → (task ≡ Predict → ⊥) → IsBuilt task → ⊥
+unbuilt_task Predict not built = not refl
+unbuilt_task task not built = built
+
+pub not_built : (run : Run) (o : Option Command) (c : Command) → run.status ≡ Refused NotYet 0 → o ≡ Some c → IfSome o (λ d. run.Stands d) → IfSome o (λ c. (d : Command) → run.Stands d → d ≡ c) → (c.task ≡ Predict → ⊥) → AllHold run
+not_built run o c e read stands only not = not_built_holds run c e (read_some run.Stands o c read stands) (read_some (λ (x : Command). (d : Command) → run.Stands d → d ≡ x) o c read only) (unbuilt_task c.task not)
