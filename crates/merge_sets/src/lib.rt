@@ -1,0 +1,29 @@
+//! What comes into the cells of a step, and what is merged of it.
+#![tactic(auto)]
+
+ghost use Rattle.merge_sets.specs.Merging.{MergedSetsHold, TablesCollect};
+
+mod adding;
+#[cfg(test)]
+mod cell_rows;
+mod cells;
+mod columns;
+mod places;
+mod slots;
+mod table;
+#[cfg(test)]
+mod tests;
+
+pub use adding::slots_of;
+pub use slots::slot_numbers;
+pub use table::CellTable;
+
+/// A table has of each cell the greatest numbers of all parts that came in since the step began.
+pub fn tables_collect()
+    ensures { TablesCollect }
+{}
+
+/// The set of a cell holds each state there of each pair that came in.
+pub fn merged_sets_hold()
+    ensures { MergedSetsHold }
+{}
