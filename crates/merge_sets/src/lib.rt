@@ -4,15 +4,11 @@
 ghost use Rattle.merge_sets.specs.Merging.{MergedSetsHold, TablesCollect};
 
 mod adding;
-#[cfg(test)]
-mod cell_rows;
 mod cells;
 mod columns;
 mod places;
 mod slots;
 mod table;
-#[cfg(test)]
-mod tests;
 
 pub use adding::slots_of;
 pub use slots::slot_numbers;
