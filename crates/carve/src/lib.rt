@@ -18,6 +18,3 @@ pub use sets::{SetList, cut};
 pub fn rows_are_boxes()
     ensures { RowsAreBoxes }
 {}
-
-#[cfg(test)]
-mod tests;
