@@ -1,6 +1,5 @@
 -- The numbers of which something holds have one list.
 use Rattle.std.proofs.Common.{◌≡◌, inl, inr, ℕ, ◌≤◌, ◌<◌, arith, refl, sym, List, [], ◌∷◌}
-use Rattle.std.specs.List.{AllByRecursion}
 use Rattle.spot_terms.specs.Lists.{Includes, Rises, Lists}
 use Rattle.spot_terms.proofs.ListLemmas.{all_included}
 
