@@ -19,6 +19,7 @@ use Rattle.round_out.proofs.Discs.{along_in_disc}
 use Rattle.acc_occupancy.specs.Runs.{HoldsBodies}
 use Rattle.acc_occupancy.proofs.Sizes.{body_within, reach_number_within}
 use Rattle.acc_occupancy.proofs.Motions.{IsMotion, motion_reach}
+use Rattle.spot_terms.proofs.Orders.{greater_is_one}
 
 -- the greatest reach of some ticks is at least each one's
 greatest_bound : (s : AccStart) (n : Normal) (from count j : ℕ) → j ≤ count → reach_number s n (from + j) ≤ℤ greatest_reach s n from count
@@ -31,16 +32,13 @@ greatest_bound s n from (suc count) j h =
       | inr above ↦ let last : j ≡ suc count = omega arith in rw last (omega (arith, ints, clamps))
     ]
 
-max_cases : (x y : ℤ) → (int_max x y ≡ x) ⊎ (int_max x y ≡ y)
-max_cases x y = elim (int_lt y x) as (λ t. (cond t x y ≡ x) ⊎ (cond t x y ≡ y)) [ true ↦ inl refl | false ↦ inr refl ]
-
 -- and it is one of them
 greatest_reached : (s : AccStart) (n : Normal) (from count : ℕ) → (j : ℕ) × (j ≤ count) × (greatest_reach s n from count ≡ reach_number s n (from + j))
 unfolding greatest_reach
 greatest_reached s n from zero = (0, omega arith, rw add-zero refl)
 greatest_reached s n from (suc count) =
     let (j, within, same) = greatest_reached s n from count in
-    elim (max_cases (greatest_reach s n from count) (reach_number s n (from + suc count))) [
+    elim (greater_is_one (greatest_reach s n from count) (reach_number s n (from + suc count))) [
       | inl earlier ↦ (j, omega arith, earlier ∙ same)
       | inr last ↦ (suc count, omega arith, last)
     ]

@@ -10,6 +10,7 @@ use Rattle.spot_terms.specs.declared.plain.AccStart.{AccStart}
 use Rattle.acc_occupancy.specs.declared.line.Line.{Line}
 use Rattle.acc_occupancy.specs.Lines.{IsLine, IsLineInRange, AreLines, AreLinesInRange, line_speed, line_place, line_number, half}
 use Rattle.acc_occupancy.proofs.Rows.{half_bounds, suc_times}
+use Rattle.spot_terms.proofs.Orders.{at_most_or_above}
 
 -- ---- the line of a start has its numbers
 
@@ -50,16 +51,13 @@ grows_on : (l : Line) (k : ℕ) → IsLineInRange l → line_place l k ≤ℤ li
 unfolding line_place
 grows_on l k r h = let way = stays l k r (omega (arith, ints, h)) in omega (arith, ints, way)
 
-order_cases : (x y : ℤ) → (x ≤ℤ y) ⊎ (y <ℤ x)
-order_cases x y = elim (cases_lt (up y + down x) (up x + down y)) [ inl below ↦ inr (omega (arith, ints)) | inr above ↦ inl (omega (arith, ints)) ]
-
 -- where the place falls in a tick, it fell before
 fell : (l : Line) (from count : ℕ) → IsLineInRange l → line_place l (suc (from + count)) <ℤ line_place l (from + count) → line_place l (from + count) ≤ℤ line_place l from
 fell l from zero r h = rw add-zero (omega (arith, ints))
 fell l from (suc count) r h =
     let same : from + suc count ≡ suc (from + count) = omega arith in
     let falls : line_place l (suc (suc (from + count))) <ℤ line_place l (suc (from + count)) = rw same at h in
-    elim (order_cases (line_place l (from + count)) (line_place l (suc (from + count)))) [
+    elim (at_most_or_above (line_place l (from + count)) (line_place l (suc (from + count)))) [
       | inl rises ↦ absurd (let on = grows_on l (from + count) r rises in omega (arith, ints, on, falls))
       | inr falls_first ↦ let earlier = fell l from count r falls_first in rw same (omega (arith, ints, earlier, falls_first))
     ]
@@ -72,7 +70,7 @@ greatest_at_end s n l from (suc count) h r =
     let last = line_place-is s n l (from + suc count) h in
     let same : from + suc count ≡ suc (from + count) = omega arith in
     rw (before, ← last, same)
-    (elim (order_cases (line_place l (from + count)) (line_place l (suc (from + count)))) [
+    (elim (at_most_or_above (line_place l (from + count)) (line_place l (suc (from + count)))) [
       | inl rises ↦ omega (arith, ints, clamps, rises)
       | inr falls_first ↦ let earlier = fell l from count r falls_first in omega (arith, ints, clamps, earlier, falls_first)
     ])

@@ -16,6 +16,7 @@ use Rattle.spot_terms.proofs.Normals.{each_normal, along-east, along-north_east,
 use Rattle.round_out.proofs.Discs.{within_disc, sum_along, difference}
 use Rattle.acc_occupancy.proofs.Sizes.{a_small, v_small}
 use Rattle.spot_terms.proofs.Steps.{step_at, bound_at, start_at}
+use Rattle.spot_terms.proofs.Orders.{half_at_least}
 
 -- ---- one tick
 
@@ -24,7 +25,7 @@ abbrev TickAlong : State → State → Normal → Type 0
 TickAlong s t n = (pos 2 *ℤ along n t.p) ≤ℤ (pos 2 *ℤ along n s.p +ℤ along n s.v +ℤ along n t.v +ℤ pos (rounding n))
 
 -- the tick rule as two bounds
-rule_bounds : (p v p' v' : ℤ) → Ticks p v p' v' → ((pos 2 *ℤ p') ≤ℤ (pos 2 *ℤ p +ℤ v +ℤ v' +ℤ pos 1)) × ((pos 2 *ℤ p +ℤ v +ℤ v') ≤ℤ (pos 2 *ℤ p' +ℤ pos 1))
+pub rule_bounds : (p v p' v' : ℤ) → Ticks p v p' v' → ((pos 2 *ℤ p') ≤ℤ (pos 2 *ℤ p +ℤ v +ℤ v' +ℤ pos 1)) × ((pos 2 *ℤ p +ℤ v +ℤ v') ≤ℤ (pos 2 *ℤ p' +ℤ pos 1))
 rule_bounds p v p' v' h = omega (arith, ints, products)
 
 pub tick_along : (a : ℤ) (s t : State) (n : Normal) → Includes normals n → PlanarTick a s t → TickAlong s t n
@@ -85,16 +86,11 @@ motion_speed s n (suc k) states t r i m e =
 
 -- ---- places
 
--- half of a number, rounded down, is at least each number whose double is at most it
-half_floor : (x y : ℤ) → (pos 2 *ℤ x) ≤ℤ y → x ≤ℤ quotient_floor y (pos 2)
-half_floor x (pos n) h = omega (arith, ints)
-half_floor x (negsuc n) h = omega (arith, ints)
-
 -- one tick: the way along a normal
 way : (x x' v v' w w' : ℤ) (d : ℕ) (r : ℤ) → (pos 2 *ℤ x') ≤ℤ (pos 2 *ℤ x +ℤ v +ℤ v' +ℤ pos d) → v ≤ℤ w → v' ≤ℤ w' → x ≤ℤ r → x' ≤ℤ (r +ℤ quotient_floor (w +ℤ w' +ℤ pos d) (pos 2))
-way x x' v v' w w' d r h a b c = let half = half_floor (x' -ℤ r) (w +ℤ w' +ℤ pos d) (omega (arith, ints, products)) in omega (arith, ints)
+way x x' v v' w w' d r h a b c = let half = half_at_least (x' -ℤ r) (w +ℤ w' +ℤ pos d) (omega (arith, ints, products)) in omega (arith, ints)
 
-same_place : (n : Normal) (p q : Pt) → p ≡ q → along n p ≤ℤ along n q
+pub same_place : (n : Normal) (p q : Pt) → p ≡ q → along n p ≤ℤ along n q
 same_place n p q e = rw e (omega (arith, ints))
 
 -- the place along a normal

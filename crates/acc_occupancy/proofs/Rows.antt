@@ -8,12 +8,9 @@ use Rattle.spot_terms.specs.Whole.{quotient_floor}
 use Rattle.spot_terms.proofs.Quotients.{quotient_floor-is}
 use Rattle.acc_occupancy.specs.declared.line.Line.{Line}
 use Rattle.acc_occupancy.specs.Lines.{IsLineInRange, line_speed, line_place, IsRising, pairs, half, risen_place, bend_way, capped_way}
+use Rattle.spot_terms.proofs.Orders.{zero_times, times_not_negative}
 
 -- ---- multiples and halves
-
-zero_times : (z : ℤ) → pos 0 *ℤ z ≡ pos 0
-zero_times (pos n) = omega (arith, ints)
-zero_times (negsuc n) = omega (arith, ints)
 
 sum_times : (a b : ℕ) (z : ℤ) → pos (a + b) *ℤ z ≡ pos a *ℤ z +ℤ pos b *ℤ z
 sum_times a b (pos n) = omega (arith, ints)
@@ -26,10 +23,6 @@ one_times (negsuc n) = omega (arith, ints)
 pub suc_times : (k : ℕ) (z : ℤ) → pos (suc k) *ℤ z ≡ pos k *ℤ z +ℤ z
 suc_times k (pos n) = omega (arith, ints)
 suc_times k (negsuc n) = omega (arith, ints)
-
-pub times_not_negative : (k : ℕ) (z : ℤ) → pos 0 ≤ℤ z → pos 0 ≤ℤ (pos k *ℤ z)
-times_not_negative k (pos n) h = omega (arith, ints)
-times_not_negative k (negsuc n) h = absurd (omega (arith, ints, h))
 
 pairs_step : (x y : ℕ) → (x + 2 * y) / 2 ≡ x / 2 + y
 pairs_step x y = omega arith

@@ -15,9 +15,10 @@ use Rattle.spot_terms.specs.declared.plain.AccStart.{AccStart}
 use Rattle.spot_terms.proofs.ListLemmas.{all_included}
 use Rattle.spot_terms.proofs.Products.{products}
 use Rattle.spot_terms.proofs.Normals.{along-east, along-north, along-west, along-south}
-use Rattle.acc_occupancy.proofs.Motions.{box_along}
+use Rattle.acc_occupancy.proofs.Motions.{box_along, rule_bounds, same_place}
 use Rattle.acc_occupancy.proofs.Sizes.{half_within, v_small}
 use Rattle.spot_terms.proofs.Steps.{step_at, bound_at, start_at}
+use Rattle.spot_terms.proofs.Orders.{half_at_least}
 
 -- ---- the four normals along the axes
 
@@ -39,9 +40,6 @@ rounding_axis : (n : Normal) → Includes axes n → rounding n ≡ 1
 rounding_axis n i = each_axis (λ m. rounding m ≡ 1) refl refl refl refl n i
 
 -- ---- one tick
-
-rule_bounds : (p v p' v' : ℤ) → Ticks p v p' v' → ((pos 2 *ℤ p') ≤ℤ (pos 2 *ℤ p +ℤ v +ℤ v' +ℤ pos 1)) × ((pos 2 *ℤ p +ℤ v +ℤ v') ≤ℤ (pos 2 *ℤ p' +ℤ pos 1))
-rule_bounds p v p' v' h = omega (arith, ints, products)
 
 tick_axis : (a : ℤ) (s t : State) (n : Normal) → Includes axes n → EgoTick a s t → (pos 2 *ℤ along n t.p) ≤ℤ (pos 2 *ℤ along n s.p +ℤ along n s.v +ℤ along n t.v +ℤ pos 1)
 tick_axis a s t n i h =
@@ -89,15 +87,8 @@ motion_speed s n (suc k) states t i m e =
     let capped = cap_axis s.v t n i (bound_at (EgoTick s.a) (EgoSpeedAtMost s.v) states (suc k) t m.ticks e) in
     rw (disc_axis (nat_abs s.a) n i, disc_axis (nat_abs s.v) n i) (omega (arith, ints, clamps))
 
-half_floor : (x y : ℤ) → (pos 2 *ℤ x) ≤ℤ y → x ≤ℤ quotient_floor y (pos 2)
-half_floor x (pos n) h = omega (arith, ints)
-half_floor x (negsuc n) h = omega (arith, ints)
-
 way : (x x' v v' w w' : ℤ) (d : ℕ) (r : ℤ) → d ≡ 1 → (pos 2 *ℤ x') ≤ℤ (pos 2 *ℤ x +ℤ v +ℤ v' +ℤ pos 1) → v ≤ℤ w → v' ≤ℤ w' → x ≤ℤ r → x' ≤ℤ (r +ℤ quotient_floor (w +ℤ w' +ℤ pos d) (pos 2))
-way x x' v v' w w' d r one h a b c = let half = half_floor (x' -ℤ r) (w +ℤ w' +ℤ pos d) (omega (arith, ints, products)) in omega (arith, ints)
-
-same_place : (n : Normal) (p q : Pt) → p ≡ q → along n p ≤ℤ along n q
-same_place n p q e = rw e (omega (arith, ints))
+way x x' v v' w w' d r one h a b c = let half = half_at_least (x' -ℤ r) (w +ℤ w' +ℤ pos d) (omega (arith, ints, products)) in omega (arith, ints)
 
 pub axis_reach : (s : AccStart) (n : Normal) (k : ℕ) (states : List State) (t : State) → Includes axes n → IsMotion s states → slice_get states k ≡ Some t → along n t.p ≤ℤ reach_number s n k
 unfolding reach_number

@@ -5,6 +5,7 @@ use Rattle.std.proofs.lemmas.Int.{ints}
 use Rattle.spot_terms.specs.Whole.{Within, count_between, quotient_floor}
 use Rattle.spot_terms.proofs.QuotientBounds.{floor_between}
 use Rattle.spot_terms.proofs.Quotients.{quotient_floor-is}
+use Rattle.spot_terms.proofs.Orders.{natural_of}
 
 pub record AreSlots (p q : ℤ) : Type 0 where
   pub low : nat_abs q ≤ 400_000_000
@@ -31,10 +32,6 @@ slots_are w lo hi h o l u =
 
     size : (z : ℤ) → negsuc 399_999_999 ≤ℤ z → z ≤ℤ pos 400_000_000 → nat_abs z ≤ 400_000_000
     size z h k = omega (arith, ints)
-
-natural_of : (z : ℤ) → pos 0 ≤ℤ z → (n : ℕ) × (z ≡ pos n)
-natural_of (pos n) h = (n, refl)
-natural_of (negsuc n) h = absurd (omega (arith, ints, h))
 
 counted : (p q : ℤ) (n : ℕ) → p -ℤ q +ℤ pos 1 ≡ pos n → n ≡ count_between q p
 counted p q n e = rw e refl

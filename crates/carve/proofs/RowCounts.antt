@@ -15,6 +15,7 @@ use Rattle.spot_terms.specs.Whole.{count_between, quotient_floor}
 use Rattle.spot_terms.proofs.Quotients.{product_le_at, next_product_gt_at, below_factor}
 use Rattle.spot_terms.proofs.Ring.{spread_left}
 use Rattle.carve.specs.RowSums.{sum_rows, RowsAreBoxes}
+use Rattle.spot_terms.proofs.Orders.{at_most_true, above_false}
 
 -- ---- sums over rows
 
@@ -106,17 +107,11 @@ high_slot g r wide = slot_one g r (slot_high g r) wide (omega (arith, ints, wide
 
 -- ---- rows that meet a range
 
-is_le : (a b : ℤ) → a ≤ℤ b → int_le a b ≡ true
-is_le a b h = search (rules, h)
-
-not_le : (a b : ℤ) → b <ℤ a → int_le a b ≡ false
-not_le a b h = search (rules, h)
-
 shared : (g : ℤ) (s t : ℤ × ℤ) → s.0 ≤ℤ s.1 → t.0 ≤ℤ t.1 → slots_shared g s t ≡ count_between (int_max (slot g s.0) (slot g t.0)) (int_min (slot g s.1) (slot g t.1))
-shared g s t h k = rw (is_le s.0 s.1 h, is_le t.0 t.1 k) refl
+shared g s t h k = rw (at_most_true s.0 s.1 h, at_most_true t.0 t.1 k) refl
 
 not_shared : (g : ℤ) (s t : ℤ × ℤ) → s.1 <ℤ s.0 → slots_shared g s t ≡ 0
-not_shared g s t h = rw (not_le s.0 s.1 h) refl
+not_shared g s t h = rw (above_false s.0 s.1 h) refl
 
 row_shared : (g : ℤ) (s : ℤ × ℤ) (r : ℤ) → pos 0 <ℤ g → s.0 ≤ℤ s.1 → slots_shared g s (slot_low g r, slot_high g r) ≡ count_between (int_max (slot g s.0) r) (int_min (slot g s.1) r)
 row_shared g s r wide h =

@@ -10,15 +10,11 @@ use Rattle.spot_terms.specs.declared.plain.Pt.{Pt}
 use Rattle.spot_terms.specs.Hull.{InHull}
 use Rattle.convex_poly.specs.Turns.{TurnsLeft}
 use Rattle.convex_poly.specs.Chains.{key, Rising, Toward, KeepsFront, IsChain}
-use Rattle.spot_terms.proofs.ListLemmas.{includes_front, includes_back}
+use Rattle.spot_terms.proofs.ListLemmas.{includes_front, includes_back, all_append}
 use Rattle.spot_terms.proofs.Orders.{below_or_at_least}
-use Rattle.convex_poly.proofs.Places.{all_at, all_map, place_of}
+use Rattle.spot_terms.proofs.Places.{all_at, all_map, place_of}
 use Rattle.std.proofs.lemmas.Grind.{take_at_read}
 use Rattle.convex_poly.proofs.Sides.{toward_flat, toward_included, both_sides}
-
-pub all_append : {X : Type 0} (P : X → Type 0) (xs ys : List X) → AllByRecursion P xs → AllByRecursion P ys → AllByRecursion P (xs ++ ys)
-all_append P [] ys h k = k
-all_append P (x ∷ xs) ys h k = (h.0, all_append P xs ys h.1 k)
 
 all_front : {X : Type 0} (P : X → Type 0) (xs ys : List X) → AllByRecursion P (xs ++ ys) → AllByRecursion P xs
 all_front P [] ys h = tt

@@ -8,7 +8,7 @@ use Rattle.spot_terms.specs.Hull.{Before, edges_to, IsCornerList}
 use Rattle.convex_poly.specs.Turns.{cross, TurnsLeft}
 use Rattle.convex_poly.proofs.Crosses.{cross_turn}
 use Rattle.convex_poly.proofs.Corners.{IsBeside}
-use Rattle.convex_poly.proofs.Places.{same_index, all_by_index, compare3}
+use Rattle.spot_terms.proofs.Places.{same_index, all_by_index, compare3}
 
 -- the first point is before each other one
 abbrev pub StartsFirst : List Pt → Type 0

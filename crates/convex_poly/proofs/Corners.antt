@@ -15,7 +15,8 @@ use Rattle.spot_terms.proofs.Hulls.{mix_hull, hull_not_below, hull_subset, hull_
 use Rattle.spot_terms.proofs.Orders.{difference_positive, irreflexive, natural_of, opposite_not_negative, positive_not_negative, square_positive, sum_not_negative, sum_positive, zero_by_signs, zero_not_negative}
 use Rattle.convex_poly.specs.Turns.{cross, inner, EdgesLeft, ClosingLeft, IsOn}
 use Rattle.convex_poly.proofs.Crosses.{inner_exp, cross_affine, inner_affine, cross_turn, cross_swap, cross_first, cross_second, cross_parts, cross_weighs_x, cross_weighs_y, inner_weighs_x, inner_weighs_y, inner_parts}
-use Rattle.convex_poly.proofs.Places.{all_map, same_index, compare3}
+use Rattle.spot_terms.proofs.Places.{all_map, same_index, compare3}
+use Rattle.spot_terms.proofs.OneHull.{same_pt}
 
 -- ---- a triangle
 
@@ -214,8 +215,6 @@ pub closing_back : (vs : List Pt) (q e : Pt) (r : ℤ) → 0 < length vs → r �
 closing_back vs q e r some is all = rw is (all (length vs - 1) e (omega arith))
 
 -- ---- the three kinds of corner lists
-pub pt_same : (p q : Pt) → p.x ≡ q.x → p.y ≡ q.y → p ≡ q
-pt_same p q h k = ap (λ (z : ℤ). let r : Pt = record { x = z; y = p.y } in r) h ∙ ap (λ (z : ℤ). let r : Pt = record { x = q.x; y = z } in r) k
 
 less_x : (a : Pt) → Affine (λ p. p.x -ℤ a.x)
 less_x a = record { at_x = pos 1; at_y = pos 0; rest = neg_ℤ a.x; is = λ p. omega (arith, ints) }
@@ -237,7 +236,7 @@ between z w h k = omega (arith, ints)
 
 pub one_corner : (a q : Pt) → InHull (a ∷ []) q → a ≡ q
 one_corner a q h =
-    pt_same a q
+    same_pt a q
     (between q.x a.x (hull_not_below _ (less_x a) (a ∷ []) q (itself_zero a.x, tt) h) (hull_not_below _ (more_x a) (a ∷ []) q (itself_zero a.x, tt) h))
     (between q.y a.y (hull_not_below _ (less_y a) (a ∷ []) q (itself_zero a.y, tt) h) (hull_not_below _ (more_y a) (a ∷ []) q (itself_zero a.y, tt) h))
 

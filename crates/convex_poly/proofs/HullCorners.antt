@@ -16,11 +16,11 @@ use Rattle.std.specs.List.Sorted.{IsPermutation}
 use Rattle.convex_poly.specs.Polygons.{IsPosition, IsPolygon}
 use Rattle.convex_poly.proofs.Orders.{permuted_in, permuted_all}
 use Rattle.convex_poly.specs.Chains.{key, HasMeetingEnds, Rising, Toward, IsChain, IsOrdered, IsSideOf, between_ends}
-use Rattle.spot_terms.proofs.ListLemmas.{all_included, all_of, includes_at, includes_back, includes_front}
+use Rattle.spot_terms.proofs.ListLemmas.{all_included, all_of, includes_at, includes_back, includes_front, all_append}
 use Rattle.spot_terms.proofs.Orders.{asymmetric, irreflexive, below_or_at_least}
-use Rattle.convex_poly.proofs.Places.{all_at, place_of}
+use Rattle.spot_terms.proofs.Places.{all_at, place_of}
 use Rattle.convex_poly.proofs.Chains.{Loop, loop_turns, neg_key, key_neg}
-use Rattle.convex_poly.proofs.ChainSteps.{chains_hull, all_append}
+use Rattle.convex_poly.proofs.ChainSteps.{chains_hull}
 use Rattle.convex_poly.proofs.CornerLists.{StartsFirst, corner_list_of}
 
 -- ---- a key that rises in the order of points

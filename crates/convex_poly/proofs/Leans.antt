@@ -10,7 +10,7 @@ use Rattle.spot_terms.proofs.Ring.{ring, Exp, var, num, ◌⊕◌, ◌⊖◌, �
 use Rattle.convex_poly.specs.Pivots.{minus, turn_of, along, IsLeftwards, AreLeftwards, LeansTo}
 use Rattle.spot_terms.proofs.ListLemmas.{includes_at}
 use Rattle.spot_terms.proofs.Orders.{below_or_here, equal_of_difference, negative_clash, not_positive_of_opposite, opposite_not_negative, opposite_of_negative, opposite_times, opposites_times, sum_not_negative, times_opposite, times_zero, zero_not_negative, zero_not_positive, zero_times, product_not_negative, factor_not_negative, positive_not_negative, product_positive}
-use Rattle.convex_poly.proofs.Places.{same_index, place_of}
+use Rattle.spot_terms.proofs.Places.{same_index, place_of}
 
 leftwards_turn : (v r : Pt) → IsLeftwards v r → pos 0 ≤ℤ turn_of v r
 leftwards_turn v r (inl h) = positive_not_negative (turn_of v r) h

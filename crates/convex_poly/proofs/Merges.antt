@@ -9,7 +9,7 @@ use lib.Signed.{◌≤ℤ◌, ◌<ℤ◌}
 use Rattle.spot_terms.specs.declared.plain.Pt.{Pt}
 use Rattle.spot_terms.specs.Lists.{Includes}
 use Rattle.spot_terms.specs.LanePolygons.{add_pt, sums}
-use Rattle.spot_terms.proofs.ListLemmas.{all_of, includes_at, includes_back, includes_front, includes_flat_map, includes_map}
+use Rattle.spot_terms.proofs.ListLemmas.{all_of, includes_at, includes_back, includes_front, includes_flat_map, includes_map, all_append}
 use Rattle.spot_terms.proofs.Members.{in_map, in_flat_map}
 use Rattle.spot_terms.proofs.Ring.{ring, Exp, var, num, ◌⊕◌, ◌⊖◌, ◌⊗◌}
 use Rattle.spot_terms.proofs.Orders.{below_trans, opposite_of_negative, sum_not_negative, sum_swap, product_not_negative, difference_positive, below_or_at_least, positive_not_negative}
@@ -17,14 +17,14 @@ use Rattle.convex_poly.specs.Chains.{key, Rising, Toward}
 use Rattle.convex_poly.specs.Pivots.{minus, turn_of}
 use Rattle.convex_poly.specs.Sums.{GoesFirst, IsSide, IsSumPath}
 use Rattle.convex_poly.specs.Turns.{cross}
-use Rattle.convex_poly.proofs.ChainSteps.{all_append, toward_more}
-use Rattle.convex_poly.proofs.Corners.{pt_same}
+use Rattle.convex_poly.proofs.ChainSteps.{toward_more}
 use Rattle.convex_poly.proofs.Crosses.{cross_exp}
-use Rattle.convex_poly.proofs.Places.{place_of, same_index}
+use Rattle.spot_terms.proofs.Places.{place_of, same_index}
 use Rattle.convex_poly.proofs.Sides.{middle_toward, toward_flat, toward_included}
+use Rattle.spot_terms.proofs.OneHull.{same_pt}
 
 pub add_swap : (p q : Pt) → add_pt p q ≡ add_pt q p
-add_swap p q = pt_same (add_pt p q) (add_pt q p) (sum_swap p.x q.x) (sum_swap p.y q.y)
+add_swap p q = same_pt (add_pt p q) (add_pt q p) (sum_swap p.x q.x) (sum_swap p.y q.y)
 
 -- ---- sides
 

@@ -12,7 +12,7 @@ use Rattle.spot_terms.specs.Whole.{Within, SizeAtMost}
 use Rattle.spot_terms.proofs.Orders.{at_most_trans}
 use Rattle.convex_poly.specs.OctRows.{HasRows, IsEastwards, IsWestwards, number}
 use Rattle.convex_poly.specs.Runs.{IsRun, IsSpanOf, pt}
-use Rattle.convex_poly.proofs.Places.{all_at}
+use Rattle.spot_terms.proofs.Places.{all_at}
 
 -- a row of an octagon, by its numbers
 abbrev pub KeepsRow : List ℤ → ℤ → ℤ → Type 0

@@ -7,7 +7,7 @@ use Rattle.std.proofs.lemmas.List.Sorted.{IsPermutation-sym}
 use Rattle.std.proofs.lemmas.Grind.{get_or_moved}
 use Rattle.spot_terms.specs.Lists.{Includes}
 use Rattle.spot_terms.proofs.ListLemmas.{includes_at}
-use Rattle.convex_poly.proofs.Places.{all_by_index}
+use Rattle.spot_terms.proofs.Places.{all_by_index}
 use Rattle.std.proofs.lemmas.Int.{ints}
 use Rattle.std.proofs.lemmas.List.{take-append-le}
 use lib.IntN.{ℤ}

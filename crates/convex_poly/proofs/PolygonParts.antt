@@ -21,7 +21,7 @@ use Rattle.convex_poly.proofs.ChainSteps.{all_take}
 use Rattle.convex_poly.proofs.Corners.{origin}
 use Rattle.convex_poly.proofs.Crosses.{cross_exp}
 use Rattle.convex_poly.proofs.HullCorners.{before_key, far}
-use Rattle.convex_poly.proofs.Places.{all_at, all_by_index, place_of}
+use Rattle.spot_terms.proofs.Places.{all_at, all_by_index, place_of}
 use Rattle.convex_poly.proofs.Tops.{first_before, left_of_edge, rank_up, turns_at_first}
 
 -- ---- turns the other way round

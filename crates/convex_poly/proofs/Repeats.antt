@@ -10,11 +10,10 @@ use Rattle.spot_terms.specs.declared.plain.Pt.{Pt}
 use Rattle.spot_terms.specs.Lists.{Includes}
 use Rattle.spot_terms.specs.Hull.{Before}
 use Rattle.convex_poly.specs.Chains.{IsInOrder, IsOrdered}
-use Rattle.spot_terms.proofs.ListLemmas.{includes_at, includes_back, includes_front}
+use Rattle.spot_terms.proofs.ListLemmas.{includes_at, includes_back, includes_front, all_append}
 use Rattle.spot_terms.proofs.Orders.{antisymmetric, at_most_below, below_or_here, below_or_at_least}
-use Rattle.convex_poly.proofs.Places.{same_index, all_by_index}
-use Rattle.convex_poly.proofs.Corners.{pt_same}
-use Rattle.convex_poly.proofs.ChainSteps.{all_append}
+use Rattle.spot_terms.proofs.Places.{same_index, all_by_index}
+use Rattle.spot_terms.proofs.OneHull.{same_pt}
 
 -- the points are in order
 abbrev pub AreInOrder : List Pt → Type 0
@@ -42,7 +41,7 @@ strict : (a b : Pt) → IsInOrder a b → (a ≡ b → ⊥) → Before a b
 strict a b h n =
     by_lt_z a.x b.x (λ less. inl less)
     (λ back. let e : a.x ≡ b.x = antisymmetric a.x b.x h.by_x back in
-    by_lt_z a.y b.y (λ less. inr (e, less)) (λ high. absurd (n (pt_same a b e (antisymmetric a.y b.y (h.by_y e) high)))))
+    by_lt_z a.y b.y (λ less. inr (e, less)) (λ high. absurd (n (same_pt a b e (antisymmetric a.y b.y (h.by_y e) high)))))
 
 later : (a b c : Pt) → IsInOrder a b → Before b c → Before a c
 later a b c h (inl k) = inl (at_most_below a.x b.x c.x h.by_x k)

@@ -13,11 +13,12 @@ use Rattle.convex_poly.specs.Polygons.{IsPolygon, IsPosition}
 use Rattle.convex_poly.specs.Turns.{cross, IsOn}
 use Rattle.convex_poly.specs.Runs.{IsSpanOf, IsRun, IsSpan, IsInRows, AreLeft, IsBetween, IsBoxed, IsPlace, IsStart, pt}
 use Rattle.convex_poly.proofs.Crosses.{cross_swap}
-use Rattle.convex_poly.proofs.Corners.{pt_same, one_corner, one_corner_back, on_in_hull, left_in_hull, hull_edges_left, hull_closing_left}
-use Rattle.convex_poly.proofs.Places.{all_map, same_index}
+use Rattle.convex_poly.proofs.Corners.{one_corner, one_corner_back, on_in_hull, left_in_hull, hull_edges_left, hull_closing_left}
+use Rattle.spot_terms.proofs.Places.{all_map, same_index}
 use Rattle.spot_terms.proofs.Ring.{ring, var, ◌⊖◌, ◌⊗◌}
 use Rattle.spot_terms.proofs.Orders.{antisymmetric, below_or_at_least, difference_across, difference_not_negative, equal_at_least, equal_at_most, reflexive, sum_not_negative, weaken, zero_by_signs, product_not_negative}
 use Rattle.convex_poly.proofs.RunSteps.{IsNarrowed, run_same}
+use Rattle.spot_terms.proofs.OneHull.{same_pt}
 
 -- ---- one and two corners
 
@@ -53,7 +54,7 @@ on_of_box a b q wide tall left back = record {
 }
 
 one_of_box : (a : Pt) (x y : ℤ) → Within a.x a.x x → IsBetween a.y a.y y → InHull (a ∷ []) (pt x y)
-one_of_box a x y wide tall = one_corner_back a (pt x y) (pt_same a (pt x y) (antisymmetric a.x x wide.low wide.high) (level tall))
+one_of_box a x y wide tall = one_corner_back a (pt x y) (same_pt a (pt x y) (antisymmetric a.x x wide.low wide.high) (level tall))
   where
     level : IsBetween a.y a.y y → a.y ≡ y
     level (inl w) = antisymmetric a.y y w.low w.high

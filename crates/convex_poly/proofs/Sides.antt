@@ -13,7 +13,7 @@ use Rattle.spot_terms.proofs.Mixes.{Mix}
 use Rattle.spot_terms.proofs.Mixes.{total, mix_none, mix_add, mix_scale, mix_to, mix_included, positive_times}
 use Rattle.spot_terms.proofs.Hulls.{mix_hull, hull_mix_at, mix_hull_at}
 use Rattle.spot_terms.proofs.Orders.{difference_of_below, natural_of, opposite_not_negative}
-use Rattle.convex_poly.proofs.Places.{all_map}
+use Rattle.spot_terms.proofs.Places.{all_map}
 use Rattle.convex_poly.specs.Chains.{key, Toward}
 
 -- weighted points of vs that are q, moved t / w along (gx, gy)

@@ -9,7 +9,7 @@ use Rattle.spot_terms.specs.Lists.{Includes}
 use Rattle.spot_terms.specs.Hull.{dot, IsSupport}
 use Rattle.spot_terms.proofs.ListLemmas.{includes_at}
 use Rattle.spot_terms.proofs.Orders.{at_most_trans}
-use Rattle.convex_poly.proofs.Places.{same_index, place_of, compare3}
+use Rattle.spot_terms.proofs.Places.{same_index, place_of, compare3}
 
 -- g is the greatest value of the first i corners, and a corner has it
 pub record IsGreatestUpTo (vs : List Pt) (nx ny : ℤ) (i : ℕ) (g : ℤ) : Type 0 where

@@ -17,10 +17,11 @@ use Rattle.convex_poly.specs.Sums.{IsTop}
 use Rattle.convex_poly.specs.Turns.{cross}
 use Rattle.convex_poly.proofs.Chains.{positive_part}
 use Rattle.convex_poly.proofs.CornerCounts.{IsAfter, after_all, fan_all}
-use Rattle.convex_poly.proofs.Corners.{FanLeft, corner_fan, hull_edges_left, pt_same}
+use Rattle.convex_poly.proofs.Corners.{FanLeft, corner_fan, hull_edges_left}
 use Rattle.convex_poly.proofs.Crosses.{cross_exp, cross_second}
 use Rattle.convex_poly.proofs.HullCorners.{before_key, far, key_before}
-use Rattle.convex_poly.proofs.Places.{all_at, all_map, same_index}
+use Rattle.spot_terms.proofs.Places.{all_at, all_map, same_index}
+use Rattle.spot_terms.proofs.OneHull.{same_pt}
 
 -- ---- turns at the first corner
 
@@ -146,7 +147,7 @@ module _ (vs : List Pt) (positions : AllByRecursion IsPosition vs) (convex : IsC
               (λ back. by_lt_z q.x p.x (λ more. swapped p q (before_key q p hq hp (inl more)) same)
               (λ level. by_lt_z p.y q.y (λ less. nb (inr (antisymmetric _ _ level back, less)))
               (λ high. by_lt_z q.y p.y (λ above. swapped p q (before_key q p hq hp (inr (antisymmetric _ _ back level, above))) same)
-              (λ even. ne (pt_same p q (antisymmetric _ _ level back) (antisymmetric _ _ even high)))))))
+              (λ even. ne (same_pt p q (antisymmetric _ _ level back) (antisymmetric _ _ even high)))))))
             where
               swapped : (p q : Pt) → key far (pos 1) q <ℤ key far (pos 1) p → key far (pos 1) p ≡ key far (pos 1) q → ⊥
               swapped p q h e = against _ _ h e

@@ -12,7 +12,7 @@ use Rattle.convex_poly.specs.Turns.{cross, TurnsLeft}
 use Rattle.convex_poly.specs.Chains.{key, Rising, Toward, KeepsFront, HasDent}
 use Rattle.spot_terms.proofs.ListLemmas.{includes_at, includes_back}
 use Rattle.spot_terms.proofs.Orders.{below_or_at_least}
-use Rattle.convex_poly.proofs.Places.{all_by_index, all_map, same_index}
+use Rattle.spot_terms.proofs.Places.{all_by_index, all_map, same_index}
 use Rattle.convex_poly.proofs.Chains.{push_turns}
 use Rattle.convex_poly.proofs.Sides.{toward_flat, toward_included, middle_toward}
 

@@ -9,12 +9,10 @@ use borrow.Author.Differences.{true_is_le}
 use lib.Signed.{mag, le_z, ◌≤ℤ◌, ◌<ℤ◌}
 use mir.Syntax.{w64, w128}
 use mir.Val.{to_z, of_z}
-
-le_times : (a b m n : ℕ) → a ≤ m → b ≤ n → a * b ≤ m * n
-le_times a b m n h k = grind arith
+use Rattle.spot_terms.proofs.Orders.{product_order}
 
 pub product_within : (a b : ℤ) (m n : ℕ) → nat_abs a ≤ m → nat_abs b ≤ n → nat_abs (a *ℤ b) ≤ m * n
-product_within a b m n h k = rw (unsigned_abs-mul a b) (le_times (nat_abs a) (nat_abs b) m n h k)
+product_within a b m n h k = rw (unsigned_abs-mul a b) (product_order (nat_abs a) (nat_abs b) m n h k)
 
 pub product_fits : (a b : ℤ) → nat_abs a ≤ 100000000000000 → nat_abs b ≤ 100000000000000 → FitsSigned w128 (a *ℤ b)
 product_fits a b h k = fits_signed_mul w128 a b 100000000000000 100000000000000 h k (omega arith)

@@ -4,12 +4,13 @@ use Rattle.std.proofs.lemmas.Int.{ints}
 use Rattle.spot_terms.proofs.Products.{products, *ℤ_assoc, times_swap, scaled_order}
 use Rattle.spot_terms.proofs.Quotients.{quotient_floor-is, quotient_ceiling-is, below_factor}
 use Rattle.spot_terms.specs.Directions.{denominator, factorial, IsWithinOne, least_speed, greatest_speed}
-use Rattle.heading.proofs.Terms.{factorial_pos, power_pos}
+use Rattle.heading.proofs.Terms.{factorial_pos}
 use Rattle.heading.proofs.Sums.{IsSumOf}
+use Rattle.spot_terms.proofs.Readings.{ten_pos}
 
 pub denominator_pos : 0 < denominator
 unfolding denominator
-denominator_pos = product_pos (10 ^ 240) (factorial 40) (power_pos 240) (factorial_pos 40)
+denominator_pos = product_pos (10 ^ 240) (factorial 40) (ten_pos 240) (factorial_pos 40)
   where
     product_pos : (x y : ℕ) → 0 < x → 0 < y → 0 < x * y
     product_pos x y p q = grind arith

@@ -8,10 +8,6 @@ use Rattle.spot_terms.specs.Whole.{square, Within, IsRootCeiling}
 use Rattle.spot_terms.specs.Motions.{InBox, IsStartSpeed}
 use Rattle.spot_terms.specs.Ranges.{IsBoxWithin}
 
--- there is one start speed of a box
-pub start_speed-unique : (b : VBox) (r s : ℕ) → IsStartSpeed b r → IsStartSpeed b s → r ≡ s
-start_speed-unique b r s p q = omega (arith, p.least s q.holds, q.least r p.holds)
-
 -- m is the greatest size on a side
 abbrev pub IsGreatestSize : ℤ → ℤ → ℕ → Type 0
 IsGreatestSize lo hi m = m ≡ max (nat_abs lo) (nat_abs hi)

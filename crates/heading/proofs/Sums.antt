@@ -5,6 +5,7 @@ use Rattle.std.proofs.lemmas.Bool.Decides.{nat_tests}
 use Rattle.spot_terms.proofs.Products.{products}
 use Rattle.spot_terms.specs.Directions.{alternating, rough_term, rough_sum, denominator, exact_term, polynomial}
 use Rattle.heading.proofs.Terms.{IsTermOf, weight, slack, cosine_term, sine_term}
+use Rattle.spot_terms.proofs.Readings.{times_neg}
 
 -- 10^18 · p and c · E differ by at most slack · E
 pub record IsSumOf (c p : ℤ) (slack : ℕ) : Type 0 where
@@ -45,12 +46,9 @@ pub exact_term-odd : (a k : ℕ) → exact_term (pos a) (2 * k + 1) ≡ pos (a ^
 unfolding exact_term
 exact_term-odd a k = refl
 
-neg_product : (x w : ℕ) → neg_ℤ (pos x) *ℤ pos w ≡ neg_ℤ (pos (x * w))
-neg_product x w = omega (arith, ints, products)
-
 pub exact_term-negative : (a k : ℕ) → exact_term (negsuc a) (2 * k + 1) ≡ neg_ℤ (exact_term (pos (suc a)) (2 * k + 1))
 unfolding exact_term
-exact_term-negative a k = rw (odd_place k) (neg_product (suc a ^ (2 * k + 1)) (weight (2 * k + 1)))
+exact_term-negative a k = rw (odd_place k) (times_neg (suc a ^ (2 * k + 1)) (weight (2 * k + 1)))
 
 pub cosine_sum : (t : ℤ) (k : ℕ) → nat_abs t ≤ 7 * 10 ^ 6 → k ≤ 20 → IsSumOf (rough_sum (10 ^ 18) 0 (nat_abs t * nat_abs t) k) (polynomial t 0 k) (11 * (k + 1))
 unfolding rough_sum rough_term polynomial alternating

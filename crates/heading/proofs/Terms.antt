@@ -4,14 +4,12 @@ use Rattle.std.proofs.Math.Nat.{pow-suc, pow-zero, le_of_mul-le-mul_right, mul-d
 use Rattle.std.proofs.lemmas.Nat.{pow-add, mul-pow}
 use Rattle.std.proofs.lemmas.Bool.{cases_lt}
 use Rattle.spot_terms.specs.Directions.{factorial, rough_term, denominator}
+use Rattle.spot_terms.proofs.Readings.{ten_pos}
 
 pub factorial_pos : (n : ℕ) → 0 < factorial n
 unfolding factorial
 factorial_pos zero = omega arith
 factorial_pos (suc n) = let before = factorial_pos n in grind arith
-
-pub power_pos : (k : ℕ) → 0 < 10 ^ k
-power_pos k = one-le-pow k 10 (omega arith)
 
 factorial-suc : (n : ℕ) → factorial (suc n) ≡ suc n * factorial n
 unfolding factorial
@@ -77,7 +75,7 @@ scale-zero (suc (suc n)) h = absurd (omega arith)
 
 pub scale_pos : (odd k : ℕ) → 0 < scale odd k
 unfolding scale
-scale_pos odd k = product_pos (10 ^ (12 * k)) (factorial (2 * k + odd)) (power_pos (12 * k)) (factorial_pos (2 * k + odd))
+scale_pos odd k = product_pos (10 ^ (12 * k)) (factorial (2 * k + odd)) (ten_pos (12 * k)) (factorial_pos (2 * k + odd))
   where
     product_pos : (x y : ℕ) → 0 < x → 0 < y → 0 < x * y
     product_pos x y p q = grind arith

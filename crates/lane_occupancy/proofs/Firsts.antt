@@ -9,25 +9,23 @@ use Rattle.spot_terms.specs.Cells.{Lane, cells}
 use Rattle.spot_terms.specs.LanePolygons.{reach_of, IsFirst, IsReachedIn, IsReached}
 use Rattle.spot_terms.specs.Lists.{numbers_from, numbers_below}
 use Rattle.spot_terms.specs.declared.plain.AccStart.{AccStart}
-use Rattle.spot_terms.proofs.ListLemmas.{below-from}
+use Rattle.spot_terms.proofs.ListLemmas.{below-from, numbers_from_length}
 use Rattle.spot_terms.proofs.Orders.{below_or_at_least}
-use Rattle.convex_poly.proofs.Places.{same_index}
+use Rattle.spot_terms.proofs.Places.{same_index}
 use Rattle.lane_paths.specs.Labels.{AreLabels, label_at}
-use Rattle.lanelets.proofs.Places.{place_below}
 use Rattle.lane_occupancy.specs.Reaches.{ends_at, IsWithin}
 use Rattle.lane_occupancy.proofs.Paces.{reach_length_le}
+use Rattle.spot_terms.proofs.Unique.{some_one}
+use Rattle.spot_terms.proofs.ItemPlaces.{got_below}
 
 -- ---- the first of some ends
-
-one_item : {X : Type 0} (o : Option X) (x y : X) → o ≡ Some x → o ≡ Some y → x ≡ y
-one_item o x y e f = cc
 
 -- the first ends are below the label
 module _ (labels : List (Option ℕ)) (ends : List ℕ) (c label first : ℕ) (label_is : Some label ≡ label_at labels c) (below : (i d : ℕ) → i < first → get_or ends i d < label) where
   not_below : (i : ℕ) → IsWithin labels ends c i → first ≤ i
   not_below i w = elim (below_or_at_least i first) [
     | inr h ↦ h
-    | inl h ↦ absurd (let same = one_item (label_at labels c) w.label label w.label_is (sym label_is) in let read = get_or_from_slice_get ends i w.end 0 w.end_is in let less = below i 0 h in omega (arith, same, read, less, w.low))
+    | inl h ↦ absurd (let same = some_one (label_at labels c) w.label label w.label_is (sym label_is) in let read = get_or_from_slice_get ends i w.end 0 w.end_is in let less = below i 0 h in omega (arith, same, read, less, w.low))
   ]
 
   pub first_within : first < length ends → ((i d : ℕ) → first ≤ i → i < length ends → label ≤ get_or ends i d) → IsLeast (IsWithin labels ends c) first
@@ -43,7 +41,7 @@ module _ (labels : List (Option ℕ)) (ends : List ℕ) (c label first : ℕ) (l
   }
 
   pub none_within : length ends ≤ first → (i : ℕ) → IsWithin labels ends c i → ⊥
-  none_within h i w = let low = not_below i w in let high = place_below ends i w.end w.end_is in omega (arith, h, low, high)
+  none_within h i w = let low = not_below i w in let high = got_below ends i w.end w.end_is in omega (arith, h, low, high)
 
 -- ---- the ends of the intervals
 
@@ -51,10 +49,6 @@ from_at : (f : ℕ → ℕ) (m n i : ℕ) → i < n → slice_get (map f (number
 from_at f m zero i h = absurd (omega (arith, h))
 from_at f m (suc n) zero h = ap (λ k. Some (f k)) (let e : m ≡ m + 0 = omega arith in e)
 from_at f m (suc n) (suc i) h = from_at f (m + 1) n i (omega (arith, h)) ∙ ap (λ k. Some (f k)) (let e : m + 1 + i ≡ m + suc i = omega arith in e)
-
-length-from : (m n : ℕ) → length (numbers_from m n) ≡ n
-length-from m zero = refl
-length-from m (suc n) = omega (arith, length-from (m + 1) n)
 
 next : (f : ℕ → ℕ) (n : ℕ) → map f (numbers_below (suc n)) ≡ map f (numbers_below n) ++ f n ∷ []
 unfolding numbers_below
@@ -70,7 +64,7 @@ no_ends s speed k = refl
 
 module _ (s : AccStart) (speed k steps : ℕ) where
   pub ends_length : length (ends_at s speed k steps) ≡ steps
-  ends_length = length-map (numbers_below steps) (λ i. reach_of s speed ((i + 1) * k)) ∙ ap length (below-from steps) ∙ length-from 0 steps
+  ends_length = length-map (numbers_below steps) (λ i. reach_of s speed ((i + 1) * k)) ∙ ap length (below-from steps) ∙ numbers_from_length 0 steps
 
   end_at : (i : ℕ) → i < steps → slice_get (ends_at s speed k steps) i ≡ Some (reach_of s speed ((i + 1) * k))
   end_at i h = ap (λ ns. slice_get (map (λ i. reach_of s speed ((i + 1) * k)) ns) i) (below-from steps) ∙ from_at (λ i. reach_of s speed ((i + 1) * k)) 0 steps i h ∙ ap (λ n. Some (reach_of s speed ((n + 1) * k))) (let e : 0 + i ≡ i = omega arith in e)
@@ -95,8 +89,8 @@ module _ (lanes : List Lane) (s : AccStart) (speed k steps : ℕ) (labels : List
   pub reached_in : (c i : ℕ) → IsLeast (IsWithin labels (ends_at s speed k steps) c) i → IsReachedIn lanes s speed k steps c i × (i < steps)
   reached_in c i h =
       let w = h.holds in
-      let low : i < steps = (let l = place_below (ends_at s speed k steps) i w.end w.end_is in let few = ends_length s speed k steps in omega (arith, l, few)) in
-      let end : w.end ≡ reach_of s speed ((i + 1) * k) = one_item (slice_get (ends_at s speed k steps) i) w.end (reach_of s speed ((i + 1) * k)) w.end_is (end_at s speed k steps i low) in
+      let low : i < steps = (let l = got_below (ends_at s speed k steps) i w.end w.end_is in let few = ends_length s speed k steps in omega (arith, l, few)) in
+      let end : w.end ≡ reach_of s speed ((i + 1) * k) = some_one (slice_get (ends_at s speed k steps) i) w.end (reach_of s speed ((i + 1) * k)) w.end_is (end_at s speed k steps i low) in
       let first : IsFirst s speed k w.label i = record {
         holds = rw end at w.low;
         least = λ q l. elim (below_or_at_least q i) [ inr m ↦ m | inl m ↦ h.least q (within_at c w.label q w.label_is (omega (arith, m, low)) l) ];

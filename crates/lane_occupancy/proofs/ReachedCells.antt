@@ -11,11 +11,11 @@ use Rattle.spot_terms.specs.Lists.{Lists}
 use Rattle.spot_terms.specs.Motions.{IsStartSpeed}
 use Rattle.spot_terms.specs.declared.plain.AccStart.{AccStart}
 use Rattle.lanelets.proofs.NumberLists.{lists_as, lists_none, lists_push, lists_skip}
-use Rattle.lanelets.proofs.Places.{place_below}
 use Rattle.lane_occupancy.specs.Polygons.{AreLabelsOf}
 use Rattle.lane_occupancy.specs.Reaches.{ends_at, IsWithin}
 use Rattle.lane_occupancy.proofs.Firsts.{ends_length, ends_rise, reached_in, never_reached}
-use Rattle.lane_occupancy.proofs.Starts.{one_speed}
+use Rattle.spot_terms.proofs.ItemPlaces.{got_below}
+use Rattle.spot_terms.proofs.OneStart.{start_speed_one}
 
 -- ---- what the search for an interval asks for
 
@@ -30,7 +30,7 @@ rising_ends s speed k steps ends items e f = subst (IsNonDecreasingBy (λ end. e
 module _ (lanes : List Lane) (s : AccStart) (own k steps : ℕ) (labels : List (Option ℕ)) (ends items : List ℕ) (is_own : IsStartSpeed s.b own) (are : AreLabelsOf lanes s k steps labels) (ends_are : ends ≡ items) (items_are : items ≡ ends_at s own k steps)
     (speed : ℕ) (is_speed : IsStartSpeed s.b speed) where
   at_speed : ends ≡ ends_at s speed k steps
-  at_speed = ends_are ∙ items_are ∙ ap (λ v. ends_at s v k steps) (one_speed s.b own speed is_own is_speed)
+  at_speed = ends_are ∙ items_are ∙ ap (λ v. ends_at s v k steps) (start_speed_one s.b own speed is_own is_speed)
 
   pub is_reached : (c i : ℕ) → IsLeast (IsWithin labels ends c) i → IsReachedIn lanes s speed k steps c i × (i < steps)
   is_reached c i h = reached_in lanes s speed k steps labels (are speed is_speed) c i (subst (λ (xs : List ℕ). IsLeast (IsWithin labels xs c) i) at_speed h)
@@ -73,7 +73,7 @@ module _ (lanes : List Lane) (s : AccStart) (speed k steps : ℕ) where
 
   -- a cell that is reached has a label, so that it is one of the cells
   inside : (c : ℕ) → IsReached lanes s speed k steps c → c < length (cells lanes)
-  inside c r = place_below (cells lanes) c r.1.1.holds.last r.1.1.holds.last_is
+  inside c r = got_below (cells lanes) c r.1.1.holds.last r.1.1.holds.last_is
 
   pub whole : (n : ℕ) (reached : List ℕ) → length (cells lanes) ≤ n → Lists (λ x. (x < n) × IsReached lanes s speed k steps x) reached → Lists (IsReached lanes s speed k steps) reached
   whole n reached h l = lists_as (λ x. (x < n) × IsReached lanes s speed k steps x) (IsReached lanes s speed k steps) reached (λ x p. p.1) (λ x r. (let low = inside x r in omega (arith, low, h), r)) l

@@ -12,12 +12,10 @@ use Rattle.spot_terms.specs.declared.plain.Pt.{Pt}
 use Rattle.spot_terms.proofs.ListLemmas.{all_included, all_of}
 use Rattle.convex_poly.specs.Polygons.{IsPosition, IsSummand}
 use Rattle.convex_poly.proofs.CornerCounts.{corners_distinct, distinct_few}
-use Rattle.convex_poly.proofs.Places.{all_map}
+use Rattle.spot_terms.proofs.Places.{all_map}
 use Rattle.lanelets.specs.Pieces.{IsNear}
 use Rattle.round_out.proofs.Bodies.{slant_between}
-
-less : (n : ℕ) → n ≤ 10000000000000 → n ≤ 40000000000000
-less n h = omega (arith, h)
+use Rattle.lanelets.proofs.Nearness.{less}
 
 -- a cell has at most as many corners as points
 pub few_of_cell : (n : NetCell) (corners : List Pt) → AllByRecursion IsNear corners → IsHullOf (corners_of n) corners → length corners ≤ 4

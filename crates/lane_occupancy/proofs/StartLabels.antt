@@ -11,7 +11,7 @@ use Rattle.spot_terms.specs.Whole.{Within}
 use Rattle.spot_terms.specs.declared.plain.AccStart.{AccStart}
 use Rattle.convex_poly.proofs.Wide.{small_back}
 use Rattle.lane_paths.specs.Labels.{AreLabels}
-use Rattle.lane_occupancy.proofs.Starts.{one_speed}
+use Rattle.spot_terms.proofs.OneStart.{start_speed_one}
 
 small_a : (z : ℤ) → Within (pos 1) (pos 20) z → nat_abs z ≤ 9000000000000000000
 small_a z w = let low = w.low in let high = w.high in omega (arith, ints, low, high)
@@ -25,5 +25,5 @@ pub labels_up_to : (lanes : List Lane) (s : AccStart) (own a v ticks limit : ℕ
 labels_up_to lanes s own a v ticks limit labels start h ea ev e l speed k =
     let size_a : a ≡ nat_abs s.a = ea ∙ ap nat_abs (small_back s.a (small_a s.a start.a)) in
     let size_v : v ≡ nat_abs s.v = ev ∙ ap nat_abs (small_back s.v (small_v s.v start.v)) in
-    let is : limit ≡ reach_of s speed ticks = e ∙ ap (λ n. reach_length own n v ticks) size_a ∙ ap (λ n. reach_length own (nat_abs s.a) n ticks) size_v ∙ ap (λ n. reach_length n (nat_abs s.a) (nat_abs s.v) ticks) (one_speed s.b own speed h k) in
+    let is : limit ≡ reach_of s speed ticks = e ∙ ap (λ n. reach_length own n v ticks) size_a ∙ ap (λ n. reach_length own (nat_abs s.a) n ticks) size_v ∙ ap (λ n. reach_length n (nat_abs s.a) (nat_abs s.v) ticks) (start_speed_one s.b own speed h k) in
     subst (λ n. AreLabels lanes s.p n labels) is l

@@ -18,7 +18,3 @@ square_small z h = let m : nat_abs z * nat_abs z ≤ 900000 * 900000 = mul-le-mu
 pub slow_start : (s : AccStart) (speed : ℕ) → IsStart s → IsStartSpeed s.b speed → speed ≤ 2000000
 slow_start s speed start h =
     h.least 2000000 (λ v i. let x = square_small v.x (between s.b.xlo s.b.xhi v.x start.box.xlo start.box.xhi i.x) in let y = square_small v.y (between s.b.ylo s.b.yhi v.y start.box.ylo start.box.yhi i.y) in omega (arith, x, y))
-
--- there is one start speed
-pub one_speed : (b : VBox) (speed other : ℕ) → IsStartSpeed b speed → IsStartSpeed b other → speed ≡ other
-one_speed b speed other h k = let low = h.least other k.holds in let high = k.least speed h.holds in omega (arith, low, high)

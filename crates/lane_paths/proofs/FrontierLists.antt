@@ -3,7 +3,7 @@ use Rattle.std.proofs.Common.{◌≡◌, inl, inr, ℕ, ◌+◌, ◌≤◌, ◌<
 use Rattle.std.specs.Prelude.{slice_set, Some}
 use Rattle.std.specs.List.Sorted.{IsPermutation}
 use Rattle.std.proofs.lemmas.List.Sorted.{Contains-permutation, IsPermutation-sym, length_permutation}
-use Rattle.convex_poly.proofs.Places.{place_of}
+use Rattle.spot_terms.proofs.Places.{place_of}
 use Rattle.spot_terms.specs.Lists.{Includes}
 use Rattle.spot_terms.proofs.ListLemmas.{includes_at}
 use Rattle.lane_paths.specs.declared.shortest_lengths.ShortestLengths.{ShortestLengths}

@@ -11,10 +11,11 @@ use Rattle.spot_terms.proofs.ListLemmas.{all_of}
 use Rattle.spot_terms.proofs.Orders.{below_or_at_least}
 use Rattle.convex_poly.specs.Pivots.{AreDisjoint, minus, differences}
 use Rattle.convex_poly.specs.Polygons.{IsPolygon}
-use Rattle.convex_poly.proofs.Corners.{pt_same}
 use Rattle.convex_poly.proofs.Disjoint.{meets_common, differences_hold, disjoint_or_meets}
 use Rattle.lane_paths.specs.Clearances.{IsSmall, IsLeastClearance}
 use Rattle.lane_paths.proofs.GapLaws.{gap_apart, gap_meets}
+use Rattle.spot_terms.proofs.OneHull.{same_pt}
+use Rattle.convex_poly.proofs.RunRows.{corner_some}
 
 -- the difference of two points as the code computes it
 minus_is : (a b : ℤ) → nat_abs (a -ℤ b) ≤ 1_000_000_000 → a ≡ to_z w64 (of_z w64 a) → b ≡ to_z w64 (of_z w64 b) → to_z w64 (of_z w64 (to_z w64 (of_z w64 a) -ℤ to_z w64 (of_z w64 b))) ≡ a -ℤ b
@@ -23,7 +24,7 @@ minus_is a b h e f = omega (arith, ints)
 -- and as a point
 pub difference_is : (p q : Pt) → IsSmall (minus p q) → p.x ≡ to_z w64 (of_z w64 p.x) → q.x ≡ to_z w64 (of_z w64 q.x) → p.y ≡ to_z w64 (of_z w64 p.y) → q.y ≡ to_z w64 (of_z w64 q.y)
     → ◌≡◌ {A = Pt} (record { x = to_z w64 (of_z w64 (to_z w64 (of_z w64 p.x) -ℤ to_z w64 (of_z w64 q.x))); y = to_z w64 (of_z w64 (to_z w64 (of_z w64 p.y) -ℤ to_z w64 (of_z w64 q.y))) }) (minus p q)
-difference_is p q h px qx py qy = pt_same _ _ (minus_is p.x q.x h.x px qx) (minus_is p.y q.y h.y py qy)
+difference_is p q h px qx py qy = same_pt _ _ (minus_is p.x q.x h.x px qx) (minus_is p.y q.y h.y py qy)
 
 -- ---- points that aren't far from each other
 
@@ -41,11 +42,6 @@ near_ways a b p h i q j = near_small p q (λ f. h (p, q, i, j, f))
 pub near_differences : (a b vectors : List Pt) → vectors ≡ differences a b → (AreFar a b → ⊥) → AllByRecursion IsSmall vectors
 near_differences a b vectors e h = subst (AllByRecursion IsSmall) (sym e) (all_of IsSmall (differences a b) (differences_hold IsSmall a b (λ p q i j. near_ways a b p h i q j)))
 
--- a polygon has a corner
-some_corners : (corners : List Pt) → IsPolygon corners → 0 < length corners
-some_corners [] h = absurd h.convex
-some_corners (c ∷ corners) h = omega arith
-
 -- ---- the answers
 
 -- where two are far
@@ -54,7 +50,7 @@ gap_far a b f = inl (f, refl)
 
 -- where the two have a common point
 pub gap_common : (a b : List Pt) → IsPolygon a → IsPolygon b → (AreFar a b → ⊥) → (AreDisjoint a b → ⊥) → IsGap a b 0
-gap_common a b is_a is_b near h = inr (near, gap_meets a b (elim (disjoint_or_meets a b (some_corners a is_a) (some_corners b is_b)) [ inl d ↦ absurd (h d) | inr m ↦ m ]))
+gap_common a b is_a is_b near h = inr (near, gap_meets a b (elim (disjoint_or_meets a b (corner_some a is_a) (corner_some b is_b)) [ inl d ↦ absurd (h d) | inr m ↦ m ]))
 
 -- where they have none, it is the root of the least clearance; the corners that a call hands over are those of the polygon
 pub gap_least : (a b us vs : List Pt) (n w : ℕ) → us ≡ a → vs ≡ b → (AreFar a b → ⊥) → AreDisjoint a b → IsLeastClearance (differences us vs) n → IsRootFloor n w → IsGap a b w

@@ -18,7 +18,7 @@ use Rattle.lane_paths.specs.declared.shortest_lengths.ShortestLengths.{ShortestL
 use Rattle.lane_paths.specs.Relaxations.{AreSettled, HasPlaces, IsUnderWay, Relaxes}
 use Rattle.lane_paths.proofs.ShortestLengthLaws.{started}
 use Rattle.lane_paths.specs.Labels.{AreLabels, label_at, label_of}
-use Rattle.lane_paths.proofs.Items.{get_take, get_of_take, there}
+use Rattle.spot_terms.proofs.ItemPlaces.{get_take, get_of_take, item_at}
 use Rattle.lanelets.proofs.BesideLaws.{beside_on}
 use Rattle.lane_paths.proofs.WalkLaws.{same_cell, walk_started, walk_beside, walk_ahead, walk_route, IsClosed, closed_knows}
 
@@ -38,7 +38,7 @@ way_at_first lanes p i m e z = record {
   «end» = λ c a f g. absurd (let l = slice_get_within (cells lanes) c a g in omega (arith, e, f, l));
 }
 
--- a way that leaves waypoint i leads to the cells that can be come to from there
+-- a way that leaves waypoint i leads to the cells that can be come to from item_at
 way_leaves : (lanes : List Lane) (p : Pt) (c i m : ℕ) (w : List Pt) → Leaves lanes p c i w → IsWayTo lanes p i m → IsWalk lanes p c w m
 way_leaves lanes p c _ m _ (from_start s i b) k = subst (λ (z : ℕ). IsWalk lanes p c (p ∷ []) z) (sym (k.start refl)) (walk_started lanes p c s b i)
 way_leaves lanes p c _ m _ (from_entry e a g b) k = walk_beside lanes p c e (entry_of a) m b (k.entry e a refl g)
@@ -127,7 +127,7 @@ label_there labels c n = there_of (slice_get labels c)
     there_of None e = absurd (none-some n e)
     there_of (Some o) e = ap (λ (z : Option ℕ). Some z) e
 
--- and what stands there is a label
+-- and what stands item_at is a label
 pub label_here : (labels : List (Option ℕ)) (c n : ℕ) → slice_get labels c ≡ Some (Some n) → label_at labels c ≡ Some n
 label_here labels c n e = ap label_of e
 
@@ -138,7 +138,7 @@ settled_labels lanes p limit first lengths long f done = record {
   count = count_take lengths (length (cells lanes)) long;
   some = λ c n h.
       let (inside, is) = get_take lengths (length (cells lanes)) c (Some n) (label_there (take (length (cells lanes)) lengths) c n h) in
-      let (a, a_is) = there (cells lanes) c inside in
+      let (a, a_is) = item_at (cells lanes) c inside in
       let r = done.made.reached c n is in
       let low : n ≤ limit = reached_low lanes p (length (cells lanes)) limit first c n f r inside in (
         record {

@@ -3,7 +3,7 @@ use Rattle.std.proofs.Common.{◌≡◌, inl, inr, ℕ, ◌+◌, arith, refl, sy
 use Rattle.std.specs.Prelude.{slice_get, Some, None, Option}
 use Rattle.std.proofs.lemmas.Option.{none-some, same_Some}
 use Rattle.lane_paths.specs.Edges.{AreFirst}
-use Rattle.lane_paths.proofs.Items.{get_last, get_either}
+use Rattle.spot_terms.proofs.ItemPlaces.{get_last, get_either}
 
 -- an empty list has no length
 none_there : (i m : ℕ) → slice_get {X = Option ℕ} [] i ≡ Some (Some m) → ⊥

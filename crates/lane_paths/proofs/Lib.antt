@@ -8,7 +8,6 @@ pub mod Numbers
 pub mod LeastClearances
 pub mod DifferenceLists
 pub mod GapSteps
-pub mod Items
 pub mod WalkLaws
 pub mod RelaxLaws
 pub mod FrontierLists

@@ -4,7 +4,7 @@ use Rattle.std.specs.Prelude.{slice_get, Some}
 use Rattle.std.specs.List.{AllByRecursion}
 use Rattle.std.proofs.lemmas.List.{take_all, take_more}
 use Rattle.std.proofs.lemmas.Option.{slice_get_within}
-use Rattle.convex_poly.proofs.Places.{all_at}
+use Rattle.spot_terms.proofs.Places.{all_at}
 use Rattle.convex_poly.specs.declared.poly.Poly.{Poly}
 use Rattle.spot_terms.specs.Cells.{Lane, NetCell, Portal, cells, corners_of}
 use Rattle.spot_terms.specs.Gaps.{IsGap}

@@ -3,7 +3,7 @@ use Rattle.std.proofs.Common.{List, arith}
 use Rattle.std.proofs.lemmas.Int.{ints}
 use Rattle.std.specs.Prelude.{ℤ, pos, neg_ℤ, ◌≤ℤ◌, ◌≤◌, nat_abs}
 use Rattle.std.specs.List.{AllByRecursion}
-use Rattle.convex_poly.proofs.Places.{all_map}
+use Rattle.spot_terms.proofs.Places.{all_map}
 use Rattle.convex_poly.specs.Polygons.{IsPosition}
 use Rattle.spot_terms.proofs.Hulls.{hull_x_at_most, hull_x_at_least, hull_y_at_most, hull_y_at_least}
 use Rattle.spot_terms.specs.Hull.{InHull}

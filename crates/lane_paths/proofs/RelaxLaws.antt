@@ -11,7 +11,7 @@ use Rattle.lane_paths.specs.declared.shortest_lengths.ShortestLengths.{ShortestL
 use Rattle.lane_paths.specs.declared.shortest_lengths.Waypoint.{Waypoint}
 use Rattle.lane_paths.specs.Edges.{Edge, HasAtMost, sum_of}
 use Rattle.lane_paths.specs.Relaxations.{HasPlaces, IsDone, IsNotLesser, Relaxes, StepsTo, size_of}
-use Rattle.lane_paths.proofs.Items.{get_set_either}
+use Rattle.spot_terms.proofs.ItemPlaces.{get_set_either}
 
 -- ---- the sum of the lengths
 

@@ -5,12 +5,7 @@ use Rattle.spot_terms.specs.Cells.{NetCell}
 use Rattle.spot_terms.specs.Lists.{Pairwise, numbers_below}
 use Rattle.lanelets.specs.declared.cell.Placed.{Placed}
 use Rattle.lanelets.specs.Made.{Adds}
-
-pub pairwise_append : {X Y : Type 0} (R : X → Y → Type 0) (xs xs' : List X) (ys ys' : List Y) → Pairwise R xs ys → Pairwise R xs' ys' → Pairwise R (xs ++ xs') (ys ++ ys')
-pairwise_append R [] xs' [] ys' p q = q
-pairwise_append R [] xs' (y ∷ ys) ys' p q = absurd p
-pairwise_append R (x ∷ xs) xs' [] ys' p q = absurd p
-pairwise_append R (x ∷ xs) xs' (y ∷ ys) ys' p q = (p.0, pairwise_append R xs xs' ys ys' p.1 q)
+use Rattle.spot_terms.proofs.ListLemmas.{pairwise_append}
 
 -- nothing is added
 pub adds_none : (R : NetCell → Placed → Type 0) (a : List Placed) → Adds R [] a a

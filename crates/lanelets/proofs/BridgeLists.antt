@@ -11,7 +11,8 @@ use Rattle.lanelets.specs.Bridges.{IsBridge, bridges_of, bridges_from_lane}
 use Rattle.lanelets.specs.Links.{IsFollowed}
 use Rattle.lanelets.specs.Made.{Adds, IsPlaced}
 use Rattle.lanelets.specs.declared.cell.Placed.{Placed}
-use Rattle.lanelets.proofs.Places.{drop_at, place_below, same_at}
+use Rattle.lanelets.proofs.Places.{drop_at, same_at}
+use Rattle.spot_terms.proofs.ItemPlaces.{got_below}
 
 -- ---- over a list of positions
 
@@ -155,7 +156,7 @@ pub over_end : (lanes : List Lane) (e : ℕ) (p : Option Portal) (xs : List ℕ)
 over_end lanes e p xs k h = ap (bridges_over lanes e p) (drop_all k xs h)
 
 pub follower_low : (lanes : List Lane) (e : ℕ) (xs : List ℕ) (k : ℕ) → Lists (IsFollowed lanes e) xs → k < length xs → get_or xs k 0 < length lanes
-follower_low lanes e xs k a h = let p = a.each (get_or xs k 0) (includes_at xs k 0 h) in place_below lanes (get_or xs k 0) p.1 p.3
+follower_low lanes e xs k a h = let p = a.each (get_or xs k 0) (includes_at xs k 0 h) in got_below lanes (get_or xs k 0) p.1 p.3
 
 pub bridge_placed : (lanes : List Lane) (e f : ℕ) (l : Lane) (p q : Portal) (b : List Placed) (x : Placed) → slice_get lanes e ≡ Some l → IsBridge e l.0 f p q x → Adds (IsPlaced lanes) (record { origin = Bridge e f; entry = p; exit = q } ∷ []) b (b ++ x ∷ [])
 bridge_placed lanes e f l p q b x h m = record { added = x ∷ []; after_is = refl; each = (record { lane = l; lane_is = h; made = m }, tt) }

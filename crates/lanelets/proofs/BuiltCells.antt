@@ -7,7 +7,6 @@ use Rattle.spot_terms.specs.Lists.{Lists, Pairwise}
 use Rattle.spot_terms.specs.Network.{IsAhead, lane_of}
 use Rattle.spot_terms.specs.declared.network.Origin.{Origin}
 use Rattle.spot_terms.specs.declared.network.Origin.TheVariants.{Part, Bridge}
-use Rattle.convex_poly.proofs.ChainSteps.{all_append}
 use Rattle.lanelets.specs.declared.cell.Placed.{Placed}
 use Rattle.lanelets.specs.declared.classes.Classes.{Classes}
 use Rattle.lanelets.specs.Beside.{AreClasses, IsBeside}
@@ -16,7 +15,9 @@ use Rattle.lanelets.specs.Listing.{AreLists}
 use Rattle.lanelets.specs.Made.{IsPlaced}
 use Rattle.lanelets.specs.Steps.{net_of, IsInside}
 use Rattle.lanelets.proofs.LaneCells.{IsOfLane, cells_of_lane}
-use Rattle.lanelets.proofs.Places.{item_at, partner_at, read_at, same_lengths}
+use Rattle.lanelets.proofs.Places.{partner_at, read_at, same_lengths}
+use Rattle.spot_terms.proofs.ListLemmas.{all_append}
+use Rattle.spot_terms.proofs.ItemPlaces.{item_at}
 
 pub as_many : (lanes : List Lane) (made : List Placed) → Pairwise (IsPlaced lanes) (cells lanes) made → length made ≡ length (cells lanes)
 as_many lanes made p = same_lengths (IsPlaced lanes) (cells lanes) made p

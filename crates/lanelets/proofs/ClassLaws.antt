@@ -14,11 +14,12 @@ use Rattle.lanelets.specs.Levels.{IsPairWithin, IsReached, at_first, along, IsLe
 use Rattle.lanelets.specs.Listing.{AreBelow, AreColumns, AreLists, AreRows}
 use Rattle.lanelets.proofs.BesideLaws.{beside_join, beside_on, beside_back, beside_within}
 use Rattle.lanelets.proofs.NumberLists.{lists_as}
-use Rattle.lanelets.proofs.Places.{item_at, place_of_item, place_below, get_pushed, lent_back}
+use Rattle.lanelets.proofs.Places.{place_of_item, get_pushed}
 use Rattle.lanelets.proofs.RowLists.{lists_of, rows_within}
 use Rattle.lanelets.proofs.SideLaws.{side_back}
 use Rattle.std.proofs.lemmas.List.{length_push}
 use Rattle.std.proofs.Common.{inl, inr}
+use Rattle.spot_terms.proofs.ItemPlaces.{got_below, item_at, written}
 
 -- ---- numbers to begin with
 
@@ -103,7 +104,7 @@ classes_listed lanes net classes k lists = record {
     beside_number : (c x d : ℕ) → slice_get classes.numbers.items c ≡ Some x → IsBeside lanes net d c → slice_get classes.numbers.items d ≡ Some x
     beside_number c x d h b =
         let many = k.many in
-        let inside : d < length net = beside_within lanes net d c (let l = place_below classes.numbers.items c x h in omega (arith, l, many)) b in
+        let inside : d < length net = beside_within lanes net d c (let l = got_below classes.numbers.items c x h in omega (arith, l, many)) b in
         let (y, y_is) = item_at classes.numbers.items d (omega (arith, inside, many)) in
         subst (λ (z : ℕ). slice_get classes.numbers.items d ≡ Some z) (sym ((k.same c d x y h y_is).1 b)) y_is
 
@@ -120,7 +121,7 @@ classes_written lanes net count many pairs looked first given now same_pairs sam
     let made_first : IsMadeOf pairs first now = subst (λ (z : List ℕ). IsMadeOf pairs z now) same_first (subst (λ (z : List Pair). IsMadeOf z given now) same_pairs made) in
     let as_long : length now ≡ length first = long ∙ ap length same_first in
     let own_cells : AreOwn (length net) first = subst (λ (z : ℕ). AreOwn z first) count_is own in
-    subst (AreClassNumbers lanes net) (sym (lent_back many now first many_is as_long))
+    subst (AreClassNumbers lanes net) (sym (written many now first many_is as_long))
     (level_classes lanes net pairs first now k own_cells made_first (subst (λ (z : List Pair). AllByRecursion (IsLevel now) z) same_pairs level) (as_long ∙ own_cells.count))
 
 -- the rows of the numbers, as they are looked at

@@ -8,7 +8,8 @@ use Rattle.spot_terms.specs.Lists.{Includes, Lists}
 use Rattle.spot_terms.proofs.ListLemmas.{includes_back, includes_either, includes_front}
 use Rattle.lanelets.specs.Listing.{Gains, IsWith, HasRow, IsRowWith, AreColumns}
 use Rattle.lanelets.proofs.NumberLists.{gains_same, gains_more, gains_as, lists_as, lists_none, lists_next}
-use Rattle.lanelets.proofs.Places.{all_at, place_below, get_set_same, get_set_other}
+use Rattle.lanelets.proofs.Places.{get_set_same, get_set_other, all_got}
+use Rattle.spot_terms.proofs.ItemPlaces.{got_below}
 
 -- a row with nothing in it
 pub row_none : (columns : List (List ℕ)) (i : ℕ) → HasRow columns [] i columns
@@ -51,7 +52,7 @@ pub record AreColumnsBelow (rows : List (List ℕ)) (i count : ℕ) (columns : L
 pub columns_none : (rows : List (List ℕ)) (count : ℕ) (columns : List (List ℕ)) → length columns ≡ count → AllByRecursion (λ (list : List ℕ). list ≡ []) columns → AreColumnsBelow rows 0 count columns
 columns_none rows count columns e h = record {
   many = e;
-  each = λ x column k. let none = all_at (λ (list : List ℕ). list ≡ []) columns x column h k in
+  each = λ x column k. let none = all_got (λ (list : List ℕ). list ≡ []) columns x column h k in
       subst (λ (ys : List ℕ). Lists (λ k. (k < 0) × IsRowWith rows x k) ys) (sym none) (lists_none (λ k. (k < 0) × IsRowWith rows x k) (λ y p. let low = p.0 in omega (arith, low)));
 }
 
@@ -75,5 +76,5 @@ columns_next rows i j count row a b e h below has = record {
 pub columns_all : (rows : List (List ℕ)) (i count : ℕ) (columns : List (List ℕ)) → length rows ≤ i → AreColumnsBelow rows i count columns → AreColumns rows count columns
 columns_all rows i count columns h below = record {
   many = below.many;
-  each = λ x column k. lists_as (λ y. (y < i) × IsRowWith rows x y) (IsRowWith rows x) column (λ y p. p.1) (λ y p. (let low = place_below rows y p.0 p.1 in omega (arith, low, h), p)) (below.each x column k);
+  each = λ x column k. lists_as (λ y. (y < i) × IsRowWith rows x y) (IsRowWith rows x) column (λ y p. p.1) (λ y p. (let low = got_below rows y p.0 p.1 in omega (arith, low, h), p)) (below.each x column k);
 }

@@ -11,13 +11,14 @@ use Rattle.spot_terms.specs.Lists.{Pairwise, Lists}
 use Rattle.spot_terms.specs.declared.plain.Pt.{Pt}
 use Rattle.spot_terms.proofs.Hulls.{hull_x_at_most, hull_x_at_least, hull_y_at_most, hull_y_at_least, hull_to_points, hull_to_corners}
 use Rattle.convex_poly.specs.Polygons.{IsPolygon, IsPosition}
-use Rattle.convex_poly.proofs.Places.{all_map}
+use Rattle.spot_terms.proofs.Places.{all_map}
 use Rattle.lanelets.specs.declared.cell.Placed.{Placed}
 use Rattle.lanelets.specs.Holding.{HoldsAt}
 use Rattle.spot_terms.specs.Routes.{IsStartCell}
 use Rattle.lanelets.specs.Made.{IsPlaced}
 use Rattle.lanelets.proofs.NumberLists.{lists_as}
-use Rattle.lanelets.proofs.Places.{item_at, partner_at, place_below, same_at, same_lengths}
+use Rattle.lanelets.proofs.Places.{partner_at, same_at, same_lengths}
+use Rattle.spot_terms.proofs.ItemPlaces.{got_below, item_at}
 
 abbrev most : ℤ
 most = pos 40000000000000
@@ -52,16 +53,16 @@ holds_read made p k x low =
     ((λ h. subst (λ (y : Placed). InHull y.cell.poly p) (same_at made k h.0 (slice_index_or made k x) h.1 at) h.2), (λ h. (slice_index_or made k x, at, h)))
 
 pub holding_all : (made : List Placed) (p : Pt) (n : ℕ) (xs : List ℕ) → length made ≤ n → Lists (λ k. (k < n) × HoldsAt made p k) xs → Lists (HoldsAt made p) xs
-holding_all made p n xs h = lists_as (λ k. (k < n) × HoldsAt made p k) (HoldsAt made p) xs (λ k q. q.1) (λ k q. (let low = place_below made k q.0 q.1 in omega (arith, low, h), q))
+holding_all made p n xs h = lists_as (λ k. (k < n) × HoldsAt made p k) (HoldsAt made p) xs (λ k q. q.1) (λ k q. (let low = got_below made k q.0 q.1 in omega (arith, low, h), q))
 
 -- the cells that are kept hold a point where those that are defined do
 pub holding_is : (lanes : List Lane) (made : List Placed) (p : Pt) (xs : List ℕ) → Pairwise (IsPlaced lanes) (cells lanes) made → Lists (HoldsAt made p) xs → Lists (IsStartCell lanes p) xs
 holding_is lanes made p xs b = lists_as (HoldsAt made p) (IsStartCell lanes p) xs
-    (λ k q. let low = place_below made k q.0 q.1 in let many = same_lengths (IsPlaced lanes) (cells lanes) made b in
+    (λ k q. let low = got_below made k q.0 q.1 in let many = same_lengths (IsPlaced lanes) (cells lanes) made b in
     let (n, at) = item_at (cells lanes) k (omega (arith, low, many)) in
     let r : IsPlaced lanes n q.0 = partner_at (IsPlaced lanes) (cells lanes) made k n q.0 b at q.1 in
     (n, at, hull_to_points (corners_of n) q.0.cell.poly (whole_pt p) r.made.cell.poly q.2))
-    (λ k q. let low = place_below (cells lanes) k q.0 q.1 in let many = same_lengths (IsPlaced lanes) (cells lanes) made b in
+    (λ k q. let low = got_below (cells lanes) k q.0 q.1 in let many = same_lengths (IsPlaced lanes) (cells lanes) made b in
     let (x, at) = item_at made k (omega (arith, low, many)) in
     let r : IsPlaced lanes q.0 x = partner_at (IsPlaced lanes) (cells lanes) made k q.0 x b q.1 at in
     (x, at, hull_to_corners (corners_of q.0) x.cell.poly (whole_pt p) r.made.cell.poly q.2))

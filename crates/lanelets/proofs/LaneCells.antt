@@ -10,12 +10,12 @@ use Rattle.spot_terms.specs.Ranges.{IsLaneInRange}
 use Rattle.spot_terms.specs.declared.network.Origin.{Origin}
 use Rattle.spot_terms.specs.declared.network.Origin.TheVariants.{Part, Bridge}
 use Rattle.spot_terms.proofs.Members.{all_in_map}
-use Rattle.convex_poly.proofs.ChainSteps.{all_append}
 use Rattle.lanelets.specs.declared.cell.Placed.{Placed}
 use Rattle.lanelets.specs.Buildable.{AreBuildable}
 use Rattle.spot_terms.specs.Ranges.{lane_size, lanes_size}
 use Rattle.lanelets.specs.Made.{Adds, IsMadeOf, IsPlaced, source_of}
 use Rattle.lanelets.proofs.Places.{drop_at}
+use Rattle.spot_terms.proofs.ListLemmas.{all_append}
 
 -- ---- step by step
 

@@ -7,10 +7,11 @@ use Rattle.std.proofs.lemmas.List.Sums.{sum_by-set}
 use Rattle.std.proofs.lemmas.Option.{get_or_from_slice_get, same_Some}
 use Rattle.spot_terms.specs.Lists.{Includes}
 use Rattle.spot_terms.proofs.ListLemmas.{all_of, includes_at, includes_taken}
-use Rattle.convex_poly.proofs.Places.{all_at, compare3}
+use Rattle.spot_terms.proofs.Places.{all_at, compare3}
 use Rattle.lanelets.specs.declared.levels.Pair.{Pair}
 use Rattle.lanelets.specs.Levels.{IsPairWithin, IsReached, at_first, along, IsLevel, IsMadeOf, IsLowered}
-use Rattle.lanelets.proofs.Places.{get_set_same, get_set_other, item_at}
+use Rattle.lanelets.proofs.Places.{get_set_same, get_set_other}
+use Rattle.spot_terms.proofs.ItemPlaces.{item_at}
 
 -- a number that is made less makes the sum less
 sum_set : (numbers : List ℕ) (i n : ℕ) → i < length numbers → ((k : ℕ) → slice_get numbers i ≡ Some k → n < k) → sum (slice_set numbers i n) < sum numbers

@@ -19,7 +19,8 @@ use Rattle.spot_terms.proofs.ListLemmas.{all_included, includes_back, includes_e
 use Rattle.lanelets.specs.Listing.{AreBelow, AreColumns}
 use Rattle.lanelets.specs.Links.{IsPlaceOf, ArePlaces, AreSuccessors, IsFollowed}
 use Rattle.lanelets.proofs.Disjunctions.{either, or_first, or_later, or_second}
-use Rattle.lanelets.proofs.Places.{place_below, item_at, same_at, partner_at, same_lengths}
+use Rattle.lanelets.proofs.Places.{same_at, partner_at, same_lengths}
+use Rattle.spot_terms.proofs.ItemPlaces.{got_below, item_at}
 
 -- ---- the position of an id
 
@@ -38,7 +39,7 @@ place_some lanes id p h unique =
       omega (arith, low, many),
       λ f l g.
           let key : get_or (keys_of lanes) f 0 ≡ l.0 = key_at lanes f l 0 g in
-          let within : f < length lanes = place_below lanes f l g in (
+          let within : f < length lanes = got_below lanes f l g in (
             (λ e. elim (cases_eq f p) [
               | inl same ↦ same
               | inr other ↦ elim (cases_lt f p) [
@@ -142,7 +143,7 @@ named_row P Q lanes rows columns f m before listing at all turned places here e 
       | inl j ↦ (let (l, h) = item_at lanes e (all_included (λ x. x < length lanes) before e places.within j) in
           (l, m, h, at, or_second (list_any (λ i. i == m.0) (P l)) (list_any (λ i. i == l.0) (Q m)) ((places.each e l h).0 j)))
       | inr j ↦ (let (row, was, k) = (turned.each f listing here).each e j in
-          let low : e < length rows = place_below rows e row was in
+          let low : e < length rows = got_below rows e row was in
           let (l, h) = item_at lanes e (omega (arith, low, many)) in
           let p : ArePlaces lanes (P l) row = partner_at (ArePlacesOf P lanes) lanes rows e l row all h was in
           (l, m, h, at, or_first (list_any (λ i. i == m.0) (P l)) (list_any (λ i. i == l.0) (Q m)) ((p.each f m at).0 k)))
@@ -153,7 +154,7 @@ named_row P Q lanes rows columns f m before listing at all turned places here e 
         let same : n ≡ m = same_at lanes f n m g at in
         let t' : (list_any (λ i. i == m.0) (P l) || list_any (λ i. i == l.0) (Q m)) ≡ true = subst (λ (k : Lane). (list_any (λ i. i == k.0) (P l) || list_any (λ i. i == l.0) (Q k)) ≡ true) same t in
         elim (either (list_any (λ i. i == m.0) (P l)) (list_any (λ i. i == l.0) (Q m)) t') [
-          | inl k ↦ (let low : e < length lanes = place_below lanes e l h in
+          | inl k ↦ (let low : e < length lanes = got_below lanes e l h in
               let (row, was) = item_at rows e (omega (arith, low, many)) in
               let p : ArePlaces lanes (P l) row = partner_at (ArePlacesOf P lanes) lanes rows e l row all h was in
               includes_back before listing e ((turned.each f listing here).all e (row, was, (p.each f m at).1 k)))
@@ -169,7 +170,7 @@ source_row lanes successors columns f m before listing at rows turned places her
 
 -- the positions that follow and are followed are those of lanelets
 pub followed_low : (lanes : List Lane) (e f : ℕ) → IsFollowed lanes e f → e < length lanes
-followed_low lanes e f h = place_below lanes e h.0 h.2
+followed_low lanes e f h = got_below lanes e h.0 h.2
 
 pub follower_within : (lanes : List Lane) (f e : ℕ) → IsFollowed lanes e f → f < length lanes
-follower_within lanes f e h = place_below lanes f h.1 h.3
+follower_within lanes f e h = got_below lanes f h.1 h.3

@@ -15,8 +15,9 @@ use Rattle.lanelets.specs.Listing.{AreBelow}
 use Rattle.lanelets.specs.Nearby.{AreKept, HasPieceNumber, IsNearby, IsPieceNumber}
 use Rattle.lanelets.specs.Steps.{net_of, HasOrigin}
 use Rattle.lanelets.proofs.PairLists.{net_many}
-use Rattle.lanelets.proofs.Places.{place_below, same_at, same_lengths}
+use Rattle.lanelets.proofs.Places.{same_at, same_lengths}
 use Rattle.lanelets.proofs.StepLists.{item_low, lanes_low, origin_is}
+use Rattle.spot_terms.proofs.ItemPlaces.{got_below}
 
 -- a cell of a piece is a cell, and the number of the piece is below that of the cells
 pub piece_low : (cells : List Placed) (lists : List (List ℕ)) (c k : ℕ) → HasPieceNumber lists (net_of cells) c k → c < length cells
@@ -47,7 +48,7 @@ module _ (lanes : List Lane) (net : List NetCell) (kept : List KeptLane) (nearby
   pub neighbours_below : (e : ℕ) (row : List ℕ) → slice_get nearby.neighbours.items e ≡ Some row → AreBelow (length kept) row
   neighbours_below e row h = all_of (λ x. x < length kept) row (λ x i.
       let (l, m, at, other, t) = (k.near.neighbours.each e row h).each x i in
-      let low = place_below lanes x m other in
+      let low = got_below lanes x m other in
       let many = same_lengths IsKept lanes kept k.each in omega (arith, low, many))
 
 -- what is listed as cells are cells

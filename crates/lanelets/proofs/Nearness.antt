@@ -9,7 +9,7 @@ use Rattle.spot_terms.proofs.ListLemmas.{all_included, all_of}
 use Rattle.convex_poly.specs.Polygons.{IsPosition}
 use Rattle.lanelets.specs.Pieces.{IsNear, AreNear, corners_between}
 
-less : (n : ℕ) → n ≤ 10000000000000 → n ≤ 40000000000000
+pub less : (n : ℕ) → n ≤ 10000000000000 → n ≤ 40000000000000
 less n h = omega (arith, h)
 
 position : (p : Pt) → IsNear p → IsPosition p

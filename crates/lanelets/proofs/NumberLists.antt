@@ -36,11 +36,6 @@ all_below xs n r a h = elim (some_length xs) [ inl none ↦ subst (λ (ys : List
 
 -- ---- gains
 
-pub get_includes : {X : Type 0} (xs : List X) (k : ℕ) (x : X) → slice_get xs k ≡ Some x → Includes xs x
-get_includes [] k x h = cc
-get_includes (y ∷ ys) zero x h = let e : x ≡ y = cc in inl e
-get_includes (y ∷ ys) (suc k) x h = inr (get_includes ys k x h)
-
 pub gains_same : (P : Type 0) (n : ℕ) (xs : List ℕ) → (P → Includes xs n) → Gains P n xs xs
 gains_same P n xs h = record { keeps = λ x i. i; has = h; only = λ x i. inl i; rises = λ r a. r }
 

@@ -19,6 +19,7 @@ use Rattle.lanelets.specs.Nearby.{AreListed, HasPieceNumber, IsPieceNumber}
 use Rattle.lanelets.specs.Steps.{net_of, HasOrigin, IsOfLane}
 use Rattle.lanelets.proofs.Places.{same_at}
 use Rattle.lanelets.proofs.StepLists.{origin_is}
+use Rattle.spot_terms.proofs.Unique.{some_injective}
 
 -- each cell is one of the network
 pub net_many : (cells : List Placed) → length (net_of cells) ≡ length cells
@@ -64,9 +65,6 @@ gains_as P Q before after g to back = record {
 
 -- ---- where side cells are
 
-some_is : (e f : ℕ) → Some e ≡ Some f → e ≡ f
-some_is e f h = cc
-
 either_of : (n a b : Bool) → (not n && (a || b)) ≡ true → (a || b) ≡ true
 either_of true a b h = cc
 either_of false a b h = h
@@ -74,7 +72,7 @@ either_of false a b h = h
 -- the lanelet of a cell beside one of the lanelet at e is listed with that
 side_listed : (lanes : List Lane) (net : List NetCell) (c d e : ℕ) (s : IsSide lanes net c d) → IsOfLane net c e → AreListed lanes e s.f
 side_listed lanes net c d e s here =
-    let same : s.e ≡ e = some_is s.e e (sym s.e_is.0 ∙ ap (λ (n : NetCell). lane_of n.origin) (same_at net c s.a here.0 s.c_is here.1) ∙ here.2) in (
+    let same : s.e ≡ e = some_injective s.e e (sym s.e_is.0 ∙ ap (λ (n : NetCell). lane_of n.origin) (same_at net c s.a here.0 s.c_is here.1) ∙ here.2) in (
       s.l,
       s.m,
       subst (λ k. slice_get lanes k ≡ Some s.l) same s.e_is.1,
@@ -91,12 +89,12 @@ pub side_piece : (lanes : List Lane) (net : List NetCell) (lists : List (List �
     → ((l m : Lane) → slice_get lanes e ≡ Some l → slice_get lanes f ≡ Some m → length l.1.left ≡ length m.1.left) → IsSide lanes net c d → HasPieceNumber lists net d k
 side_piece lanes net lists c d e f piece part parts k o number of equal s =
     let from : s.a.origin ≡ Part e piece part parts = origin_is net c s.a (Part e piece part parts) s.c_is o in
-    let same_e : s.e ≡ e = some_is s.e e (sym s.e_is.0 ∙ ap lane_of from) in
-    let same_f : s.f ≡ f = some_is s.f f (sym s.f_is.0 ∙ ap (λ (n : NetCell). lane_of n.origin) (same_at net d s.b of.0 s.d_is of.1) ∙ of.2) in
+    let same_e : s.e ≡ e = some_injective s.e e (sym s.e_is.0 ∙ ap lane_of from) in
+    let same_f : s.f ≡ f = some_injective s.f f (sym s.f_is.0 ∙ ap (λ (n : NetCell). lane_of n.origin) (same_at net d s.b of.0 s.d_is of.1) ∙ of.2) in
     let as_many = equal s.l s.m (subst (λ z. slice_get lanes z ≡ Some s.l) same_e s.e_is.1) (subst (λ z. slice_get lanes z ≡ Some s.m) same_f s.f_is.1) in
     let over : Overlaps (Part e piece part parts) s.b.origin = subst (λ (z : Origin). Overlaps z s.b.origin) from (s.beside as_many) in
     let to = overlapped e piece part parts s.b.origin over in
-    let same : to.0 ≡ f = some_is to.0 f (ap lane_of (sym to.3) ∙ s.f_is.0 ∙ ap (λ (z : ℕ). Some z) same_f) in
+    let same : to.0 ≡ f = some_injective to.0 f (ap lane_of (sym to.3) ∙ s.f_is.0 ∙ ap (λ (z : ℕ). Some z) same_f) in
     (f, piece, to.1, to.2, s.b, s.d_is, subst (λ (z : ℕ). s.b.origin ≡ Part z piece to.1 to.2) same to.3, number)
 
 -- ---- the pairs of one cell

@@ -5,9 +5,8 @@ use Rattle.std.proofs.lemmas.Option.{slice_get_read, get_or_from_slice_get}
 use Rattle.std.specs.Prelude.{Some, slice_get}
 use Rattle.std.specs.List.{AllByRecursion}
 use Rattle.spot_terms.specs.Lists.{Includes, Pairwise}
-
-some_same : {X : Type 0} (x y : X) → Some x ≡ Some y → x ≡ y
-some_same x y e = cc
+use Rattle.spot_terms.proofs.Unique.{some_injective}
+use Rattle.spot_terms.proofs.ItemPlaces.{got_below}
 
 pub drop_at : {X : Type 0} (xs : List X) (k m : ℕ) (x : X) → m ≡ k + 1 → slice_get xs k ≡ Some x → drop k xs ≡ x ∷ drop m xs
 drop_at xs k m x e h = rw (e, add-one) (at xs k x h)
@@ -17,15 +16,10 @@ drop_at xs k m x e h = rw (e, add-one) (at xs k x h)
     at (y ∷ ys) zero x h = cc
     at (y ∷ ys) (suc k) x h = at ys k x h
 
-pub all_at : {X : Type 0} (P : X → Type 0) (xs : List X) (k : ℕ) (x : X) → AllByRecursion P xs → slice_get xs k ≡ Some x → P x
-all_at P [] k x a h = cc
-all_at P (y ∷ ys) zero x a h = subst P (some_same y x h) a.0
-all_at P (y ∷ ys) (suc k) x a h = all_at P ys k x a.1 h
-
-pub place_below : {X : Type 0} (xs : List X) (k : ℕ) (x : X) → slice_get xs k ≡ Some x → k < length xs
-place_below [] k x h = cc
-place_below (y ∷ ys) zero x h = omega arith
-place_below (y ∷ ys) (suc k) x h = let b = place_below ys k x h in omega (arith, b)
+pub all_got : {X : Type 0} (P : X → Type 0) (xs : List X) (k : ℕ) (x : X) → AllByRecursion P xs → slice_get xs k ≡ Some x → P x
+all_got P [] k x a h = cc
+all_got P (y ∷ ys) zero x a h = subst P (some_injective y x h) a.0
+all_got P (y ∷ ys) (suc k) x a h = all_got P ys k x a.1 h
 
 pub get_set_same : {X : Type 0} (xs : List X) (k : ℕ) (old x : X) → slice_get xs k ≡ Some old → slice_get (set xs k x) k ≡ Some x
 get_set_same [] k old x h = cc
@@ -39,30 +33,14 @@ get_set_other (y ∷ ys) zero (suc k) x h = refl
 get_set_other (y ∷ ys) (suc j) zero x h = refl
 get_set_other (y ∷ ys) (suc j) (suc k) x h = get_set_other ys j k x (λ e. h (ap (λ (n : ℕ). suc n) e))
 
--- a list that was lent whole, and written without a change of its length
-pub lent_back : {X : Type 0} (n : ℕ) (new items : List X) → n ≡ length items → length new ≡ length items → take n (new ++ drop (length new) items) ≡ new
-lent_back n new items e h =
-    let none : drop (length new) items ≡ [] = drop_all (length new) items (omega (arith, h)) in
-    rw (none, append-nil) (take_all n new (omega (arith, e, h)))
-
 -- the item that was read at a place
 pub read_at : {X : Type 0} (xs : List X) (k : ℕ) (x : X) → k < length xs → x ≡ get_or xs k x → slice_get xs k ≡ Some x
 read_at xs k x h e = slice_get_read xs (length xs) k x refl h e
 
-pub all_read : {X : Type 0} (P : X → Type 0) (xs : List X) (k : ℕ) (d : X) → AllByRecursion P xs → k < length xs → P (get_or xs k d)
-all_read P [] k d a h = absurd (omega (arith, h))
-all_read P (y ∷ ys) zero d a h = a.0
-all_read P (y ∷ ys) (suc k) d a h = all_read P ys k d a.1 (omega (arith, h))
-
 -- ---- places of lists that grow or are taken from
 
 pub take_at : {X : Type 0} (xs : List X) (k m : ℕ) (x : X) → m ≡ k + 1 → slice_get xs k ≡ Some x → take m xs ≡ take k xs ++ x ∷ []
-take_at xs k m x e h = let l = place_below xs k x h in rw e (take_more xs k x l ∙ ap (λ y. take k xs ++ y ∷ []) (get_or_from_slice_get xs k x x h))
-
-pub item_at : {X : Type 0} (xs : List X) (k : ℕ) → k < length xs → (x : X) × (slice_get xs k ≡ Some x)
-item_at [] k h = absurd (omega (arith, h))
-item_at (y ∷ ys) zero h = (y, refl)
-item_at (y ∷ ys) (suc k) h = item_at ys k (omega (arith, h))
+take_at xs k m x e h = let l = got_below xs k x h in rw e (take_more xs k x l ∙ ap (λ y. take k xs ++ y ∷ []) (get_or_from_slice_get xs k x x h))
 
 pub get_pushed : {X : Type 0} (xs : List X) (x y : X) (k : ℕ) → slice_get (xs ++ x ∷ []) k ≡ Some y → (slice_get xs k ≡ Some y) ⊎ ((k ≡ length xs) × (y ≡ x))
 get_pushed [] x y zero h = inr (refl, cc)
@@ -82,7 +60,7 @@ place_of_item (y ∷ ys) x (inr i) = let (k, h) = place_of_item ys x i in (suc k
 pub partner_at : {X Y : Type 0} (R : X → Y → Type 0) (xs : List X) (ys : List Y) (k : ℕ) (x : X) (y : Y) → Pairwise R xs ys → slice_get xs k ≡ Some x → slice_get ys k ≡ Some y → R x y
 partner_at R [] ys k x y p h g = cc
 partner_at R (a ∷ xs) [] k x y p h g = absurd p
-partner_at R (a ∷ xs) (b ∷ ys) zero x y p h g = subst (R x) (some_same b y g) (subst (λ z. R z b) (some_same a x h) p.0)
+partner_at R (a ∷ xs) (b ∷ ys) zero x y p h g = subst (R x) (some_injective b y g) (subst (λ z. R z b) (some_injective a x h) p.0)
 partner_at R (a ∷ xs) (b ∷ ys) (suc k) x y p h g = partner_at R xs ys k x y p.1 h g
 
 pub same_lengths : {X Y : Type 0} (R : X → Y → Type 0) (xs : List X) (ys : List Y) → Pairwise R xs ys → length ys ≡ length xs

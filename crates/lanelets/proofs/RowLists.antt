@@ -7,7 +7,8 @@ use Rattle.spot_terms.specs.Lists.{Includes}
 use Rattle.spot_terms.proofs.ListLemmas.{all_of, includes_back, includes_either, includes_front}
 use Rattle.lanelets.specs.Listing.{AreBelow, AreColumns, AreLists, AreRows, Gathers, IsRowWith}
 use Rattle.lanelets.proofs.NumberLists.{lists_as}
-use Rattle.lanelets.proofs.Places.{get_pushed, item_at, place_of_item}
+use Rattle.lanelets.proofs.Places.{get_pushed, place_of_item}
+use Rattle.spot_terms.proofs.ItemPlaces.{item_at}
 
 pub rows_next : (R : ℕ → ℕ → Type 0) (n m : ℕ) (rows after : List (List ℕ)) (row : List ℕ) → m ≡ n + 1 → after ≡ rows ++ row ∷ [] → AreRows R n rows → ((x : ℕ) → (Includes row x ↔ R n x)) → AreRows R m after
 rows_next R n m rows after row e is a h = subst (AreRows R m) (sym is) (record {

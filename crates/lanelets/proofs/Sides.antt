@@ -11,15 +11,14 @@ use Rattle.spot_terms.specs.declared.network.Origin.{Origin}
 use Rattle.lanelets.specs.declared.kept.KeptLane.{KeptLane}
 use Rattle.lanelets.specs.Kept.{AreBeside, IsKept}
 use Rattle.lanelets.specs.Steps.{HasOrigin}
-use Rattle.lanelets.proofs.Places.{item_at, partner_at, place_below, same_at, same_lengths}
+use Rattle.lanelets.proofs.Places.{partner_at, same_at, same_lengths}
 use Rattle.lanelets.proofs.StepLists.{origin_is}
-
-some_is : (e f : ℕ) → Some e ≡ Some f → e ≡ f
-some_is e f h = cc
+use Rattle.spot_terms.proofs.Unique.{some_injective}
+use Rattle.spot_terms.proofs.ItemPlaces.{got_below, item_at}
 
 kept_at : (every : List Lane) (kept : List KeptLane) (e : ℕ) (x : KeptLane) → Pairwise IsKept every kept → slice_get kept e ≡ Some x → (l : Lane) × (slice_get every e ≡ Some l) × IsKept l x
 kept_at every kept e x p h =
-    let low = place_below kept e x h in
+    let low = got_below kept e x h in
     let many = same_lengths IsKept every kept p in
     let (l, at) = item_at every e (omega (arith, low, many)) in
     (l, at, partner_at IsKept every kept e l x p at h)
@@ -47,8 +46,8 @@ side_is T every kept net c d e f a b x y p oa ob la lb hx hy test =
       (λ s.
           let ia : s.a.origin ≡ a = origin_is net c s.a a s.c_is oa in
           let ib : s.b.origin ≡ b = origin_is net d s.b b s.d_is ob in
-          let same_e : s.e ≡ e = some_is s.e e (sym s.e_is.0 ∙ ap lane_of ia ∙ la) in
-          let same_f : s.f ≡ f = some_is s.f f (sym s.f_is.0 ∙ ap lane_of ib ∙ lb) in
+          let same_e : s.e ≡ e = some_injective s.e e (sym s.e_is.0 ∙ ap lane_of ia ∙ la) in
+          let same_f : s.f ≡ f = some_injective s.f f (sym s.f_is.0 ∙ ap lane_of ib ∙ lb) in
           let same_l : s.l ≡ l = same_at every e s.l l (subst (λ k. slice_get every k ≡ Some s.l) same_e s.e_is.1) hl in
           let same_m : s.m ≡ m = same_at every f s.m m (subst (λ k. slice_get every k ≡ Some s.m) same_f s.f_is.1) hm in
           let over : length s.l.1.left ≡ length s.m.1.left → Overlaps a b = λ same. subst (λ (o : Origin). Overlaps o b) ia (subst (Overlaps s.a.origin) ib (s.beside same)) in

@@ -16,8 +16,9 @@ use Rattle.lanelets.specs.declared.steps.Joints.{Joints}
 use Rattle.lanelets.specs.Links.{AreLinks, IsFollowed}
 use Rattle.lanelets.specs.Listing.{AreLists, Gathers}
 use Rattle.lanelets.specs.Steps.{net_of, HasOrigin, IsOfLane, LeadsTo, IsInside, IsJoined, IsJoinedFrom, AreJoints, IsOntoFirst}
-use Rattle.lanelets.proofs.Places.{all_at, item_at, place_below, same_at}
+use Rattle.lanelets.proofs.Places.{same_at, all_got}
 use Rattle.lanelets.proofs.RowLists.{gathers_more, gathers_list, gathers_as, gathered}
+use Rattle.spot_terms.proofs.ItemPlaces.{got_below, item_at}
 
 -- ---- cells and where they come from
 
@@ -42,7 +43,7 @@ net_item (p ∷ cells) zero a h = (p, refl, ap (λ (b : NetCell). b.origin) (som
 net_item (p ∷ cells) (suc c) a h = net_item cells c a h
 
 pub item_low : (cells : List Placed) (c : ℕ) (a : NetCell) → slice_get (net_of cells) c ≡ Some a → c < length cells
-item_low cells c a h = let (p, g, o) = net_item cells c a h in place_below cells c p g
+item_low cells c a h = let (p, g, o) = net_item cells c a h in got_below cells c p g
 
 pub part_inside : (n e : ℕ) (o : Origin) → lane_of o ≡ Some e → IsInside n o → e < n
 part_inside n e (Part f piece part parts) h i = let same : f ≡ e = cc in subst (λ k. k < n) same i
@@ -52,16 +53,16 @@ bridge_inside : (n e f : ℕ) (o : Origin) → o ≡ Bridge e f → IsInside n o
 bridge_inside n e f o h i = let b : IsInside n (Bridge e f) = subst (IsInside n) h i in b.1
 
 pub ends_inside : (n : ℕ) (cells : List Placed) → AllByRecursion (λ (p : Placed). IsInside n p.origin) cells → (c e : ℕ) → EndsLane (net_of cells) c e → e < n
-ends_inside n cells all c e h = let (p, g, o) = net_item cells c h.0 h.1 in part_inside n e p.origin (ap lane_of (sym o) ∙ h.2) (all_at (λ (p : Placed). IsInside n p.origin) cells c p all g)
+ends_inside n cells all c e h = let (p, g, o) = net_item cells c h.0 h.1 in part_inside n e p.origin (ap lane_of (sym o) ∙ h.2) (all_got (λ (p : Placed). IsInside n p.origin) cells c p all g)
 
 pub leads_inside : (n : ℕ) (cells : List Placed) → AllByRecursion (λ (p : Placed). IsInside n p.origin) cells → (c f : ℕ) → LeadsTo (net_of cells) c f → f < n
-leads_inside n cells all c f h = let (p, g, o) = net_item cells c h.1 h.2 in bridge_inside n h.0 f p.origin (sym o ∙ h.3) (all_at (λ (p : Placed). IsInside n p.origin) cells c p all g)
+leads_inside n cells all c f h = let (p, g, o) = net_item cells c h.1 h.2 in bridge_inside n h.0 f p.origin (sym o ∙ h.3) (all_got (λ (p : Placed). IsInside n p.origin) cells c p all g)
 
 pub lanes_inside : (n : ℕ) (cells : List Placed) → AllByRecursion (λ (p : Placed). IsInside n p.origin) cells → (c e : ℕ) → IsOfLane (net_of cells) c e → e < n
-lanes_inside n cells all c e h = let (p, g, o) = net_item cells c h.0 h.1 in part_inside n e p.origin (ap lane_of (sym o) ∙ h.2) (all_at (λ (p : Placed). IsInside n p.origin) cells c p all g)
+lanes_inside n cells all c e h = let (p, g, o) = net_item cells c h.0 h.1 in part_inside n e p.origin (ap lane_of (sym o) ∙ h.2) (all_got (λ (p : Placed). IsInside n p.origin) cells c p all g)
 
 pub origin_inside : (n : ℕ) (cells : List Placed) (c : ℕ) (o : Origin) → AllByRecursion (λ (p : Placed). IsInside n p.origin) cells → HasOrigin (net_of cells) c o → IsInside n o
-origin_inside n cells c o all h = let (p, g, e) = net_item cells c h.0 h.1 in subst (IsInside n) (sym e ∙ h.2) (all_at (λ (p : Placed). IsInside n p.origin) cells c p all g)
+origin_inside n cells c o all h = let (p, g, e) = net_item cells c h.0 h.1 in subst (IsInside n) (sym e ∙ h.2) (all_got (λ (p : Placed). IsInside n p.origin) cells c p all g)
 
 pub lanes_low : (cells : List Placed) (c e : ℕ) → IsOfLane (net_of cells) c e → c < length cells
 lanes_low cells c e h = item_low cells c h.0 h.1
@@ -201,7 +202,7 @@ onto_is lanes net links joints f c low a j = (to, from)
     from (inl (e, ends, followed, joined)) =
         (let many = a.sources.many in
         let (row, h) = item_at links.sources.items f (omega (arith, many, low)) in
-        let lower : e < length lanes = place_below lanes e followed.0 followed.2 in
+        let lower : e < length lanes = got_below lanes e followed.0 followed.2 in
         let as_many = j.ends.many in
         let (list, g) = item_at joints.ends.items e (omega (arith, lower, as_many)) in
         inl (row, h, (e, (a.sources.each f row h e).1 followed, joined, (list, g, (listed (λ e c. EndsLane net c e) (length lanes) joints.ends.items e list c j.ends g).1 ends))))

@@ -6,7 +6,8 @@ use Rattle.std.specs.Prelude.{Some, slice_get}
 use Rattle.spot_terms.specs.Cells.{Pair, Lane}
 use Rattle.spot_terms.specs.declared.scenario.RawLane.{RawLane}
 use Rattle.spot_terms.specs.Limits.{AreFarApart, IsTooWide, AreNarrowBelow}
-use Rattle.lanelets.proofs.Places.{place_below, same_at}
+use Rattle.lanelets.proofs.Places.{same_at}
+use Rattle.spot_terms.proofs.ItemPlaces.{got_below}
 
 -- the points at each place below k are near each other
 abbrev pub AreNearBelow : List Pair → List Pair → ℕ → Type 0
@@ -20,7 +21,7 @@ near_next ls rs k m d e below here j p q low hp hq far = elim (cases_eq j k) [
 ]
 
 pub near_all : (l : RawLane) (k : ℕ) → length l.left ≤ k → AreNearBelow l.left l.right k → IsTooWide l → ⊥
-near_all l k h below w = let low = place_below l.left w.0 w.1 w.3 in below w.0 w.1 w.2 (omega (arith, low, h)) w.3 w.4 w.5
+near_all l k h below w = let low = got_below l.left w.0 w.1 w.3 in below w.0 w.1 w.2 (omega (arith, low, h)) w.3 w.4 w.5
 
 pub narrow_next : (lanes : List Lane) (n m : ℕ) (l : Lane) → m ≡ n + 1 → slice_get lanes n ≡ Some l → (IsTooWide l.1 → ⊥) → AreNarrowBelow lanes n → AreNarrowBelow lanes m
 narrow_next lanes n m l e h here below k i low g wide = elim (cases_eq k n) [

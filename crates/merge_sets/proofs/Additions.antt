@@ -12,7 +12,7 @@ use Rattle.spot_terms.specs.Hull.{IsCornerList}
 use Rattle.spot_terms.specs.Motions.{State}
 use Rattle.spot_terms.specs.declared.plain.Pt.{Pt}
 use Rattle.round_out.specs.declared.frames.FrameNumbers.{FrameNumbers}
-use Rattle.convex_poly.proofs.Places.{compare3}
+use Rattle.spot_terms.proofs.Places.{compare3}
 use Rattle.base_sets.specs.declared.grid.Grid.{Grid}
 use Rattle.base_sets.specs.declared.grid.OuterBox.{OuterBox}
 use Rattle.base_sets.specs.Values.{rect_of_box}

@@ -9,20 +9,15 @@ use Rattle.spot_terms.specs.Grid.{slot}
 use Rattle.spot_terms.specs.Whole.{Within, count_between, quotient_floor}
 use Rattle.spot_terms.proofs.QuotientBounds.{floor_between}
 use Rattle.spot_terms.proofs.Quotients.{quotient_floor-is, below_factor}
-use Rattle.convex_poly.proofs.Places.{compare3}
+use Rattle.spot_terms.proofs.Places.{compare3}
 use Rattle.base_sets.specs.declared.grid.Grid.{Grid}
 use Rattle.base_sets.specs.declared.grid.OuterBox.{OuterBox}
 use Rattle.base_sets.specs.Values.{IsBox, IsGrid, rect_of_box}
 use Rattle.merge_sets.specs.Tables.{IsCellOf, place_of}
 use Rattle.base_sets.proofs.Slots.{count_is}
+use Rattle.spot_terms.proofs.Orders.{row_before, factor_order}
 
 -- ---- natural numbers
-
-pub mul_le : (a b c : ℕ) → a ≤ b → a * c ≤ b * c
-mul_le a b c h = grind arith
-
-pub before_next : (i j stride m : ℕ) → i < j → m ≤ stride → i * stride + m ≤ j * stride
-before_next i j stride m l h = let g : (i + 1) * stride ≤ j * stride = mul_le (i + 1) j stride (omega (arith, l)) in let e : (i + 1) * stride ≡ i * stride + stride = grind arith in omega (arith, g, e, h)
 
 pub sum_out : (a i b j R : ℕ) → (a + i) * R + (b + j) ≡ a * R + b + i * R + j
 sum_out a i b j R = let e : (a + i) * R ≡ a * R + i * R = grind arith in omega (arith, e)
@@ -30,29 +25,29 @@ sum_out a i b j R = let e : (a + i) * R ≡ a * R + i * R = grind arith in omega
 -- two places of columns of R cells each are one place only where column and row are the same
 same_parts : (a b c d R : ℕ) → b < R → d < R → a * R + b ≡ c * R + d → (a ≡ c) × (b ≡ d)
 same_parts a b c d R h k e = compare3 a c
-    (λ l. absurd (let g : a * R + R ≤ c * R = before_next a c R R l (omega arith) in omega (arith, g, h, e)))
+    (λ l. absurd (let g : a * R + R ≤ c * R = row_before a c R R l (omega arith) in omega (arith, g, h, e)))
     (λ s. (s, let g : a * R ≡ c * R = ap (λ (z : ℕ). z * R) s in omega (arith, g, e)))
-    (λ l. absurd (let g : c * R + R ≤ a * R = before_next c a R R l (omega arith) in omega (arith, g, k, e)))
+    (λ l. absurd (let g : c * R + R ≤ a * R = row_before c a R R l (omega arith) in omega (arith, g, k, e)))
 
 -- m cells from row b on of each of n columns from column a on don't hold another cell
 pub apart_from : (R a b m n c d : ℕ) → b + m ≤ R → d < R → ((i : ℕ) → i < n → c ≡ a + i → (d < b) ⊎ (b + m ≤ d)) → (i : ℕ) → i < n
     → (c * R + d < a * R + b + i * R) ⊎ (a * R + b + i * R + m ≤ c * R + d)
 apart_from R a b m n c d h k apart i l = compare3 c (a + i)
-    (λ before. inl (let g : c * R + R ≤ (a + i) * R = before_next c (a + i) R R before (omega arith) in let e : (a + i) * R ≡ a * R + i * R = grind arith in omega (arith, g, e, k)))
+    (λ before. inl (let g : c * R + R ≤ (a + i) * R = row_before c (a + i) R R before (omega arith) in let e : (a + i) * R ≡ a * R + i * R = grind arith in omega (arith, g, e, k)))
     (λ s. let e : c * R ≡ a * R + i * R = ap (λ (z : ℕ). z * R) s ∙ grind arith in elim (apart i l s) [ inl less ↦ inl (omega (arith, e, less)) | inr more ↦ inr (omega (arith, e, more)) ])
-    (λ after. inr (let g : (a + i) * R + R ≤ c * R = before_next (a + i) c R R after (omega arith) in let e : (a + i) * R ≡ a * R + i * R = grind arith in omega (arith, g, e, h)))
+    (λ after. inr (let g : (a + i) * R + R ≤ c * R = row_before (a + i) c R R after (omega arith) in let e : (a + i) * R ≡ a * R + i * R = grind arith in omega (arith, g, e, h)))
 
 -- the last of n columns from column a on
 pub last_within : (R a b m n C : ℕ) → b + m ≤ R → a + n ≤ C → 0 < n → a * R + b + (n - 1) * R + m ≤ C * R
 last_within R a b m n C h k l =
-    let g : (a + (n - 1)) * R + R ≤ C * R = before_next (a + (n - 1)) C R R (omega (arith, k, l)) (omega arith) in
+    let g : (a + (n - 1)) * R + R ≤ C * R = row_before (a + (n - 1)) C R R (omega (arith, k, l)) (omega arith) in
     let e : (a + (n - 1)) * R ≡ a * R + (n - 1) * R = spread a (n - 1) R in omega (arith, g, e, h)
   where
     spread : (a i R : ℕ) → (a + i) * R ≡ a * R + i * R
     spread a i R = grind arith
 
 pub columns_within : (a n C R : ℕ) → a + n ≤ C → n * R ≤ C * R
-columns_within a n C R h = mul_le n C R (omega (arith, h))
+columns_within a n C R h = factor_order n C R (omega (arith, h))
 
 -- ---- how far a slot is past the first one
 
@@ -127,7 +122,7 @@ pub place_below : (o : OuterBox) (grid : Grid) (col row : ℤ) → IsCellOf o gr
 place_below o grid col row h =
     let b = steps_below (slot grid.g o.ylo) (slot grid.g o.yhi) row h.1 in
     let g : nat_abs (col -ℤ slot grid.w o.xlo) * column_of o grid + column_of o grid ≤ slots_met grid.w o.xlo o.xhi * column_of o grid
-    = before_next (nat_abs (col -ℤ slot grid.w o.xlo)) (slots_met grid.w o.xlo o.xhi) (column_of o grid) (column_of o grid) (steps_below (slot grid.w o.xlo) (slot grid.w o.xhi) col h.0) (omega arith) in
+    = row_before (nat_abs (col -ℤ slot grid.w o.xlo)) (slots_met grid.w o.xlo o.xhi) (column_of o grid) (column_of o grid) (steps_below (slot grid.w o.xlo) (slot grid.w o.xhi) col h.0) (omega arith) in
     less (nat_abs (col -ℤ slot grid.w o.xlo) * column_of o grid) (nat_abs (row -ℤ slot grid.g o.ylo)) (column_of o grid) (slots_met grid.w o.xlo o.xhi * column_of o grid) b g
   where
     less : (a b R C : ℕ) → b < R → a + R ≤ C → a + b < C

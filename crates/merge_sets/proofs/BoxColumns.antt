@@ -22,9 +22,10 @@ use Rattle.merge_sets.specs.Cells.{AreRows, AreSound, IsPartNumbers, JoinsColumn
 use Rattle.merge_sets.specs.Tables.{IsAddable, IsCellOf, place_of}
 use Rattle.merge_sets.specs.declared.cells.Cell.{Cell}
 use Rattle.merge_sets.specs.declared.places.BoxSlots.{BoxSlots}
-use Rattle.merge_sets.proofs.BoxCells.{apart_from, before_next, column_of, counted_within, counted_slots, last_within, columns_within, place_past, reached, some_width, steps_below}
+use Rattle.merge_sets.proofs.BoxCells.{apart_from, column_of, counted_within, counted_slots, last_within, columns_within, place_past, reached, some_width, steps_below}
 use Rattle.base_sets.proofs.Slots.{count_is}
 use Rattle.merge_sets.proofs.SlotsMet.{MeetsWithin, meets_within, none_there, slot_side}
+use Rattle.spot_terms.proofs.Orders.{row_before}
 
 -- ---- a cell by its numbers
 
@@ -56,7 +57,7 @@ row_apart q low high row h o k (inr l) = inr (subst (λ (n : ℕ). nat_abs (low 
 
 column_within : (R a b m n i C : ℕ) → b + m ≤ R → a + n ≤ C → i < n → a * R + b + i * R + m ≤ C * R
 column_within R a b m n i C h k l =
-    let g : (a + i) * R + R ≤ C * R = before_next (a + i) C R R (omega (arith, k, l)) (omega arith) in
+    let g : (a + i) * R + R ≤ C * R = row_before (a + i) C R R (omega (arith, k, l)) (omega arith) in
     let e : (a + i) * R ≡ a * R + i * R = grind arith in
     omega (arith, g, e, h)
 

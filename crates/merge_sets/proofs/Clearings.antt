@@ -4,7 +4,7 @@ use Rattle.std.specs.Prelude.{Some, slice_get, slice_set}
 use Rattle.std.proofs.lemmas.Option.{none-some, same_Some}
 use Rattle.merge_sets.specs.Cells.{IsCleared}
 use Rattle.merge_sets.specs.declared.cells.Cell.{Cell}
-use Rattle.merge_sets.proofs.ItemPlaces.{get_set_either}
+use Rattle.spot_terms.proofs.ItemPlaces.{get_set_either}
 
 pub cleared_none : (old : List Cell) → IsCleared 0 old old
 cleared_none old = record { count = refl; first = λ i c l got. absurd (omega (arith, l)); past = λ i h. refl }

@@ -7,11 +7,12 @@ use Rattle.spot_terms.specs.CellNumbers.{Numbers, greater, joined}
 use Rattle.spot_terms.specs.Frames.{IsFrameInOrder}
 use Rattle.spot_terms.specs.declared.plain.Pt.{Pt}
 use Rattle.round_out.specs.declared.frames.FrameNumbers.{FrameNumbers}
-use Rattle.convex_poly.proofs.Places.{compare3}
+use Rattle.spot_terms.proofs.Places.{compare3}
 use Rattle.merge_sets.specs.Cells.{AreEight, AreSound, IsPartNumbers, JoinsColumn, JoinsColumns, OfBoth, numbers_of, joined_with, joined_both}
 use Rattle.merge_sets.specs.declared.cells.Cell.{Cell}
 use Rattle.merge_sets.proofs.Joins.{EightOf, eight_of, eight_greater, both_joined}
 use Rattle.merge_sets.proofs.FrameMerges.{greater_in_order}
+use Rattle.spot_terms.proofs.Orders.{row_before}
 
 pub sound_greater : (k : ℕ) (f g : List ℤ) → AreSound k f → AreSound k g → AreSound k (greater f g)
 sound_greater k f g h s = record { eight = eight_greater f g h.eight s.eight; order = go (eight_of f h.eight.count) (eight_of g s.eight.count) }
@@ -20,12 +21,6 @@ sound_greater k f g h s = record { eight = eight_greater f g h.eight s.eight; or
     go p q = subst (λ (z : List ℤ). AreSound k z → IsFrameInOrder (pos k) (greater z g)) (sym p.is)
         (subst (λ (y : List ℤ). let x : List ℤ = p.a0 ∷ p.a1 ∷ p.a2 ∷ p.a3 ∷ p.a4 ∷ p.a5 ∷ p.a6 ∷ p.a7 ∷ [] in AreSound k y → AreSound k x → IsFrameInOrder (pos k) (greater x y)) (sym q.is)
         (λ b a. greater_in_order k p.a0 p.a1 p.a2 p.a3 p.a4 p.a5 p.a6 p.a7 q.a0 q.a1 q.a2 q.a3 q.a4 q.a5 q.a6 q.a7 a.order b.order) s) h
-
-mul_le : (a b c : ℕ) → a ≤ b → a * c ≤ b * c
-mul_le a b c h = grind arith
-
-before_next : (i j stride m : ℕ) → i < j → m ≤ stride → i * stride + m ≤ j * stride
-before_next i j stride m l h = let g : (i + 1) * stride ≤ j * stride = mul_le (i + 1) j stride (omega (arith, l)) in let e : (i + 1) * stride ≡ i * stride + stride = grind arith in omega (arith, g, e, h)
 
 module _ (at stride m : ℕ) (width first : ℤ) (k : ℕ) (x : List Pt) (rows : List (Option FrameNumbers)) (apart : m ≤ stride) where
   pub columns_none : (old : List Cell) → ((p : ℕ) (c : Cell) → slice_get old p ≡ Some c → OfBoth (AreSound k) (numbers_of c)) → JoinsColumns at stride 0 m width first k x rows old old
@@ -38,7 +33,7 @@ module _ (at stride m : ℕ) (width first : ℤ) (k : ℕ) (x : List Pt) (rows :
 
   -- a cell of column n is as before while only the columns before it are done
   untouched : (n j : ℕ) (old now : List Cell) → JoinsColumns at stride n m width first k x rows old now → slice_get now (at + n * stride + j) ≡ slice_get old (at + n * stride + j)
-  untouched n j old now s = s.outside (at + n * stride + j) (λ i l. inr (let b = before_next i n stride m l apart in omega (arith, b)))
+  untouched n j old now s = s.outside (at + n * stride + j) (λ i l. inr (let b = row_before i n stride m l apart in omega (arith, b)))
 
   fewer : (n i : ℕ) → i < n + 1 → (i < n) ⊎ (i ≡ n)
   fewer n i l = compare3 i n (λ a. inl a) (λ e. inr e) (λ a. absurd (omega (arith, l, a)))
@@ -64,7 +59,7 @@ module _ (at stride m : ℕ) (width first : ℤ) (k : ℕ) (x : List Pt) (rows :
   columns_more n old now new f s part sound few sounds t = record {
     count = t.count ∙ s.count;
     inside = λ i j r c l o g h. elim (fewer n i l) [
-      | inl b ↦ let (d, got, is) = s.inside i j r c b o g h in (d, t.outside (at + i * stride + j) (inl (let q = before_next i n stride m b apart in omega (arith, q, o))) ∙ got, is)
+      | inl b ↦ let (d, got, is) = s.inside i j r c b o g h in (d, t.outside (at + i * stride + j) (inl (let q = row_before i n stride m b apart in omega (arith, q, o))) ∙ got, is)
       | inr e ↦ here i j r c o g h e
     ];
     outside = λ p o. t.outside p (elim (o n (omega arith)) [ inl a ↦ inl a | inr a ↦ inr a ]) ∙ s.outside p (λ i l. o i (omega (arith, l)));

@@ -7,12 +7,10 @@ use lib.Signed.{◌≤ℤ◌}
 use Rattle.spot_terms.specs.Frames.{number, IsFrameInOrder}
 use Rattle.spot_terms.proofs.Products.{scaled_order}
 use Rattle.spot_terms.specs.CellNumbers.{greater}
-
-either_max : (a b : ℤ) → (int_max a b ≡ a) ⊎ (int_max a b ≡ b)
-either_max a b = grind (arith, ints, clamps)
+use Rattle.spot_terms.proofs.Orders.{greater_is_one}
 
 scaled_max : (k : ℕ) (a b : ℤ) → (pos k *ℤ int_max a b ≡ pos k *ℤ a) ⊎ (pos k *ℤ int_max a b ≡ pos k *ℤ b)
-scaled_max k a b = elim (either_max a b) [ inl e ↦ inl (ap (λ z. pos k *ℤ z) e) | inr e ↦ inr (ap (λ z. pos k *ℤ z) e) ]
+scaled_max k a b = elim (greater_is_one a b) [ inl e ↦ inl (ap (λ z. pos k *ℤ z) e) | inr e ↦ inr (ap (λ z. pos k *ℤ z) e) ]
 
 at_least_first : (k : ℕ) (a b : ℤ) → (pos k *ℤ a) ≤ℤ (pos k *ℤ int_max a b)
 at_least_first k a b = scaled k a (int_max a b) (omega (arith, ints, clamps))

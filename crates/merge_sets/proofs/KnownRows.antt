@@ -10,7 +10,7 @@ use Rattle.spot_terms.specs.Courses.{cells_of, slots_met}
 use Rattle.spot_terms.specs.Grid.{slot}
 use Rattle.round_out.specs.declared.frames.FrameNumbers.{FrameNumbers}
 use Rattle.spot_terms.proofs.Orders.{below_or_at_least}
-use Rattle.convex_poly.proofs.Places.{compare3}
+use Rattle.spot_terms.proofs.Places.{compare3}
 use Rattle.base_sets.specs.declared.grid.Grid.{Grid}
 use Rattle.base_sets.specs.declared.grid.OuterBox.{OuterBox}
 use Rattle.base_sets.specs.Values.{rect_of_box}

@@ -1,5 +1,4 @@
 pub mod PartSlots
-pub mod ItemPlaces
 pub mod FrameMerges
 pub mod Joins
 pub mod ColumnLists

@@ -16,7 +16,6 @@ use Rattle.spot_terms.specs.Reach.{Normal}
 use Rattle.spot_terms.specs.Whole.{SizeAtMost, Within}
 use Rattle.spot_terms.specs.declared.plain.Pt.{Pt}
 use Rattle.spot_terms.proofs.ListLemmas.{all_included, all_of}
-use Rattle.spot_terms.proofs.Mixes.{not_below_times}
 use Rattle.spot_terms.proofs.Ring.{ring, var, num, ◌⊕◌, ◌⊖◌, ◌⊗◌}
 use Rattle.spot_terms.proofs.Quotients.{product_le_at, next_product_gt_at}
 use Rattle.spot_terms.proofs.Supports.{supports_are}
@@ -28,6 +27,7 @@ use Rattle.round_out.proofs.Reflections.{mirror_as_it_is, mirror_x_turned}
 use Rattle.round_out.proofs.TwoClips.{corner_at_most}
 use Rattle.merge_sets.specs.Cells.{IsPartNumbers}
 use Rattle.merge_sets.specs.Slots.{IsPartFrom}
+use Rattle.spot_terms.proofs.Orders.{product_not_negative}
 
 -- ---- supports
 
@@ -100,7 +100,7 @@ none_outside vs width lo hi c some convex all (inl before) =
 
     step : (c q width : ℤ) → pos 0 <ℤ width → c <ℤ q → (c *ℤ width +ℤ width) ≤ℤ (q *ℤ width)
     step c q width some l =
-        let p : pos 0 ≤ℤ (((q -ℤ c) -ℤ pos 1) *ℤ width) = not_below_times ((q -ℤ c) -ℤ pos 1) width (omega (arith, ints, l)) (omega (arith, ints, some)) in
+        let p : pos 0 ≤ℤ (((q -ℤ c) -ℤ pos 1) *ℤ width) = product_not_negative ((q -ℤ c) -ℤ pos 1) width (omega (arith, ints, l)) (omega (arith, ints, some)) in
         let e : ((q -ℤ c) -ℤ pos 1) *ℤ width ≡ q *ℤ width -ℤ (c *ℤ width +ℤ width) = ring (q ∷ c ∷ width ∷ []) (((var 0 ⊖ var 1) ⊖ num (pos 1)) ⊗ var 2) ((var 0 ⊗ var 2) ⊖ ((var 1 ⊗ var 2) ⊕ var 2)) refl in
         omega (arith, ints, p, e)
 
@@ -116,7 +116,7 @@ none_outside vs width lo hi c some convex all (inr after) =
   where
     step : (c q width : ℤ) → pos 0 <ℤ width → q <ℤ c → ((q +ℤ pos 1) *ℤ width) ≤ℤ (c *ℤ width)
     step c q width some l =
-        let p : pos 0 ≤ℤ (((c -ℤ q) -ℤ pos 1) *ℤ width) = not_below_times ((c -ℤ q) -ℤ pos 1) width (omega (arith, ints, l)) (omega (arith, ints, some)) in
+        let p : pos 0 ≤ℤ (((c -ℤ q) -ℤ pos 1) *ℤ width) = product_not_negative ((c -ℤ q) -ℤ pos 1) width (omega (arith, ints, l)) (omega (arith, ints, some)) in
         let e : ((c -ℤ q) -ℤ pos 1) *ℤ width ≡ c *ℤ width -ℤ ((q +ℤ pos 1) *ℤ width) = ring (q ∷ c ∷ width ∷ []) (((var 1 ⊖ var 0) ⊖ num (pos 1)) ⊗ var 2) ((var 1 ⊗ var 2) ⊖ ((var 0 ⊕ num (pos 1)) ⊗ var 2)) refl in
         omega (arith, ints, p, e)
 

@@ -15,22 +15,20 @@ use Rattle.spot_terms.specs.declared.plain.Pt.{Pt}
 use Rattle.round_out.proofs.ClipLaws.{clip_keeps_side}
 use Rattle.round_out.proofs.Reflections.{mirror_as_it_is, mirror_x_turned}
 use Rattle.merge_sets.specs.Tables.{HoldsInCell, PartsHold}
-
-turned : (lo x : ℤ) → lo ≤ℤ x → (pos 0 -ℤ x) ≤ℤ neg_ℤ lo
-turned lo x h = omega (arith, ints, h)
+use Rattle.spot_terms.proofs.Orders.{at_most_opposite}
 
 -- a whole point of a polygon at the places from lo to hi is in its part there
 part_holds : (lo hi : ℤ) (vs part : List Pt) (p v : ℤ) → IsCornerList vs → IsClippedTo (places lo hi) vs part → InHull vs (at p v) → Within lo hi p → InHull part (at p v)
 part_holds lo hi vs part p v convex (half, first, (left, second, e)) h w =
     let in_half : InHull half (at p v) = clip_keeps_side as_it_is mirror_as_it_is hi vs (Some half) convex first (at p v) h w.high in
-    let in_left : InHull left (at p v) = clip_keeps_side x_turned mirror_x_turned (neg_ℤ lo) half (Some left) first.1.ordered second (at p v) in_half (turned lo p w.low) in
+    let in_left : InHull left (at p v) = clip_keeps_side x_turned mirror_x_turned (neg_ℤ lo) half (Some left) first.1.ordered second (at p v) in_half (at_most_opposite lo p w.low) in
     subst (λ (z : List Pt). InHull z (at p v)) e in_left
 
 -- a polygon without a part at these places has no whole point there
 none_held : (lo hi : ℤ) (vs : List Pt) (p v : ℤ) → IsCornerList vs → IsClippedAway (places lo hi) vs → InHull vs (at p v) → Within lo hi p → ⊥
 none_held lo hi vs p v convex (inl first) h w = clip_keeps_side as_it_is mirror_as_it_is hi vs None convex first (at p v) h w.high
 none_held lo hi vs p v convex (inr (half, first, inl second)) h w =
-    clip_keeps_side x_turned mirror_x_turned (neg_ℤ lo) half None first.1.ordered second (at p v) (clip_keeps_side as_it_is mirror_as_it_is hi vs (Some half) convex first (at p v) h w.high) (turned lo p w.low)
+    clip_keeps_side x_turned mirror_x_turned (neg_ℤ lo) half None first.1.ordered second (at p v) (clip_keeps_side as_it_is mirror_as_it_is hi vs (Some half) convex first (at p v) h w.high) (at_most_opposite lo p w.low)
 none_held lo hi vs p v convex (inr (half, first, inr (left, second, none))) h w = absurd none
 
 pub leave_states : (w g : ℤ) (k : ℕ) (col row : ℤ) (x y : List Pt) (old new : Option Numbers) (s : State) → IsCornerList x → IsCornerList y → IsJoined w g k col row x y old new → HoldsInCell w g col row x y s → PartsHold w g k col row x y s

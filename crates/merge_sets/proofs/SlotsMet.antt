@@ -15,16 +15,13 @@ use Rattle.spot_terms.specs.Lists.{Includes}
 use Rattle.spot_terms.specs.Whole.{Within, least, greatest}
 use Rattle.spot_terms.specs.declared.plain.Pt.{Pt}
 use Rattle.spot_terms.proofs.ListLemmas.{all_included, all_of, includes_map}
-use Rattle.spot_terms.proofs.Mixes.{not_below_times}
 use Rattle.spot_terms.proofs.Quotients.{product_le_at, next_product_gt_at}
 use Rattle.spot_terms.proofs.Ring.{ring, var, num, ◌⊕◌, ◌⊖◌, ◌⊗◌}
 use Rattle.merge_sets.specs.Cells.{IsNear}
 use Rattle.merge_sets.proofs.BoxCells.{counted_slots, slot_order, some_width}
 use Rattle.merge_sets.proofs.PartSlots.{none_outside}
 use Rattle.merge_sets.proofs.PolyEnds.{places_order}
-
-trans : (a b c : ℤ) → a ≤ℤ b → b ≤ℤ c → a ≤ℤ c
-trans a b c p q = omega (arith, ints, p, q)
+use Rattle.spot_terms.proofs.Orders.{at_most_trans, product_not_negative}
 
 -- ---- least and greatest places
 
@@ -89,7 +86,7 @@ none_there vs width c some convex out = none_outside vs width (least_place vs) (
 
 times_order : (c q width : ℤ) → pos 0 <ℤ width → c ≤ℤ q → (c *ℤ width) ≤ℤ (q *ℤ width)
 times_order c q width some l =
-    let p : pos 0 ≤ℤ ((q -ℤ c) *ℤ width) = not_below_times (q -ℤ c) width (omega (arith, ints, l)) (omega (arith, ints, some)) in
+    let p : pos 0 ≤ℤ ((q -ℤ c) *ℤ width) = product_not_negative (q -ℤ c) width (omega (arith, ints, l)) (omega (arith, ints, some)) in
     let e : (q -ℤ c) *ℤ width ≡ q *ℤ width -ℤ c *ℤ width = ring (q ∷ c ∷ width ∷ []) ((var 0 ⊖ var 1) ⊗ var 2) ((var 0 ⊗ var 2) ⊖ (var 1 ⊗ var 2)) refl in
     omega (arith, ints, p, e)
 
@@ -127,8 +124,8 @@ meets_within width lo hi vs w l h convex all =
     let low = least_within lo hi vs convex all in
     let high = greatest_within lo hi vs convex all in
     let order = places_order vs in
-    let least_size = size_between lo hi (least_place vs) l h low (trans (least_place vs) (greatest_place vs) hi order high) in
-    let greatest_size = size_between lo hi (greatest_place vs) l h (trans lo (least_place vs) (greatest_place vs) low order) high in
+    let least_size = size_between lo hi (least_place vs) l h low (at_most_trans (least_place vs) (greatest_place vs) hi order high) in
+    let greatest_size = size_between lo hi (greatest_place vs) l h (at_most_trans lo (least_place vs) (greatest_place vs) low order) high in
     let slots = slot_order width (least_place vs) (greatest_place vs) some order in
     record {
       some = some;

@@ -10,20 +10,15 @@ use Rattle.spot_terms.proofs.ListLemmas.{pairwise_push}
 use Rattle.participants.specs.declared.participant.Participant.{Participant}
 use Rattle.participants.specs.Outsets.{AreGathered, IsHolding}
 use Rattle.participants.proofs.OneNumber.{pairs_push}
-
-at_zero : (n : ℕ) → n ≡ 0 → (n == 0) ≡ true
-at_zero n h = grind (arith, nat_tests)
-
-not_at_zero : (n : ℕ) → n ≢ 0 → (n == 0) ≡ false
-not_at_zero n h = grind (arith, nat_tests)
+use Rattle.spot_terms.proofs.Orders.{zero_true, not_zero_false}
 
 -- one more obstacle that starts at time 0
 pub starting_more : (ms : List Mover) (m : Mover) → m.time ≡ 0 → starting (ms ++ m ∷ []) ≡ starting ms ++ m ∷ []
-starting_more ms m h = let t : (m.time == 0) ≡ true = at_zero m.time h in filter-append (λ (x : Mover). x.time == 0) ms (m ∷ []) ∙ rw t refl
+starting_more ms m h = let t : (m.time == 0) ≡ true = zero_true m.time h in filter-append (λ (x : Mover). x.time == 0) ms (m ∷ []) ∙ rw t refl
 
 -- one more obstacle that doesn't
 pub starting_same : (ms : List Mover) (m : Mover) → m.time ≢ 0 → starting (ms ++ m ∷ []) ≡ starting ms
-starting_same ms m h = let t : (m.time == 0) ≡ false = not_at_zero m.time h in filter-append (λ (x : Mover). x.time == 0) ms (m ∷ []) ∙ rw t (append-nil (starting ms))
+starting_same ms m h = let t : (m.time == 0) ≡ false = not_zero_false m.time h in filter-append (λ (x : Mover). x.time == 0) ms (m ∷ []) ∙ rw t (append-nil (starting ms))
 
 taken_longer : (items movers : List Mover) (i : ℕ) (m : Mover) → items ≡ movers → i < length items → m ≡ get_or items i m → take (i + 1) movers ≡ take i movers ++ m ∷ []
 taken_longer items movers i m same below item =

@@ -16,6 +16,7 @@ use Rattle.propagate.specs.declared.numbers.Growths.{Growths}
 use Rattle.propagate.specs.declared.ways.Span.{Span}
 use Rattle.propagate.specs.declared.ways.Ways.{Ways}
 use Rattle.propagate.proofs.NumberLists.{AreChildNumbers}
+use Rattle.spot_terms.proofs.Orders.{product_order}
 
 -- ---- numbers in range, as the code reads them
 
@@ -36,20 +37,17 @@ natural m z h = omega (arith, ints, h.low)
 
 -- ---- growths
 
-pub below : (x y m n : ℕ) → x ≤ m → y ≤ n → x * y ≤ m * n
-below x y m n h k = grind arith
-
 pub square_small : (k : ℕ) → k ≤ 1000 → k * k ≤ 1_000_000
-square_small k h = omega (arith, below k k 1000 1000 h h)
+square_small k h = omega (arith, product_order k k 1000 1000 h h)
 
 pub speed_small : (k a : ℕ) → k ≤ 1000 → a ≤ 20 → k * a ≤ 20_000
-speed_small k a h g = omega (arith, below k a 1000 20 h g)
+speed_small k a h g = omega (arith, product_order k a 1000 20 h g)
 
 pub cube_small : (k a : ℕ) → k ≤ 1000 → a ≤ 20 → k * k * a ≤ 20_000_000
-cube_small k a h g = omega (arith, below (k * k) a 1_000_000 20 (square_small k h) g)
+cube_small k a h g = omega (arith, product_order (k * k) a 1_000_000 20 (square_small k h) g)
 
 pub half_small : (k a : ℕ) → k ≤ 1000 → a ≤ 20 → a * (k * k / 2) ≤ 10_000_000
-half_small k a h g = omega (arith, below a (k * k / 2) 20 500_000 g (omega (arith, square_small k h)))
+half_small k a h g = omega (arith, product_order a (k * k / 2) 20 500_000 g (omega (arith, square_small k h)))
 
 -- ---- the ends of spans are small
 

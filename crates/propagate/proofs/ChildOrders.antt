@@ -16,6 +16,7 @@ use Rattle.convex_poly.proofs.Wide.{product_within}
 use Rattle.round_out.proofs.FrameBounds.{supports_in_order, value2, value3, value6, value7}
 use Rattle.propagate.proofs.NumberLists.{speed_growth, place_growth, double_growth, normal_growths, IsChildNumber, AreChildNumbers}
 use Rattle.propagate.specs.Children.{IsStepPoint}
+use Rattle.spot_terms.proofs.Orders.{product_order}
 
 -- ---- the sheared polygon
 
@@ -151,10 +152,6 @@ reaching k vs n1 n2 z few near s =
     far : (x w : ℤ) → nat_abs x ≤ 30_000_000_000_000 → nat_abs w ≤ 900_000_000 → nat_abs (x +ℤ w) ≤ 31_000_000_000_000
     far x w h k = omega (arith, ints)
 
--- the growths are small
-product_below : (x y m n : ℕ) → x ≤ m → y ≤ n → x * y ≤ m * n
-product_below x y m n h k = grind arith
-
 record AreSmall (a k : ℕ) : Type 0 where
   speed : speed_growth a k ≤ 20_000
   place : place_growth a k ≤ 11_000_000
@@ -162,11 +159,11 @@ record AreSmall (a k : ℕ) : Type 0 where
 
 small_growths : (a k : ℕ) → a ≤ 20 → k ≤ 1000 → AreSmall a k
 small_growths a k slow few =
-    let square : k * k ≤ 1_000_000 = omega (arith, product_below k k 1000 1000 few few) in
-    let speed : k * a ≤ 20_000 = omega (arith, product_below k a 1000 20 few slow) in
-    let most : k * k * a ≤ 20_000_000 = omega (arith, product_below (k * k) a 1_000_000 20 square slow) in
+    let square : k * k ≤ 1_000_000 = omega (arith, product_order k k 1000 1000 few few) in
+    let speed : k * a ≤ 20_000 = omega (arith, product_order k a 1000 20 few slow) in
+    let most : k * k * a ≤ 20_000_000 = omega (arith, product_order (k * k) a 1_000_000 20 square slow) in
     let half : (k * k) / 2 ≤ 500_000 = omega (arith, square) in
-    let double : a * ((k * k) / 2) ≤ 10_000_000 = omega (arith, product_below a ((k * k) / 2) 20 500_000 slow half) in
+    let double : a * ((k * k) / 2) ≤ 10_000_000 = omega (arith, product_order a ((k * k) / 2) 20 500_000 slow half) in
     record { speed = speed; place = omega (arith, most, few); double = omega (arith, double, few) }
 
 pub child_numbers_in_range : (a k : ℕ) (vs : List Pt) (f : List ℤ) → a ≤ 20 → k ≤ 1000 → AllByRecursion IsStepPoint vs → AreChildNumbers a k vs f → IsFrameInRange f

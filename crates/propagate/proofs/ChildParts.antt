@@ -17,6 +17,7 @@ use Rattle.round_out.specs.Clips.{StaysInBox}
 use Rattle.round_out.specs.Parts.{IsPart, KeepsParts, StaysBetween, StaysSlow, GainsAtMostTwo}
 use Rattle.round_out.proofs.TwoClips.{corner_at_most}
 use Rattle.propagate.specs.Children.{IsPlaneChild, HoldsFrame, HoldsPlane, IsInPlane, IsChildIn}
+use Rattle.spot_terms.proofs.Orders.{at_most_opposite}
 
 -- ---- clips after clips
 
@@ -45,12 +46,9 @@ plane_none c lo hi vs frame f h = (frame, f, away_first (speeds c.v) (places lo 
 less : (v w : ℤ) → neg_ℤ v ≤ℤ w → (pos 0 -ℤ w) ≤ℤ v
 less v w h = omega (arith, ints)
 
-less_far : (lo q : ℤ) → lo ≤ℤ q → (pos 0 -ℤ q) ≤ℤ neg_ℤ lo
-less_far lo q h = omega (arith, ints)
-
 pub plane_holds : (c : Course) (lo hi : ℤ) (vs frame slow : List Pt) (left : Option (List Pt)) → HoldsFrame (nat_abs c.a) c.k vs frame → KeepsParts (speeds c.v) frame (Some slow) → KeepsParts (places lo hi) slow left → HoldsPlane c lo hi vs left
 plane_holds c lo hi vs frame slow left f h g p v q w i t s x =
-    g (at q w) (h (at q w) (f p v q w i t) (s.high, (less c.v w s.low, tt))) (x.high, (less_far lo q x.low, tt))
+    g (at q w) (h (at q w) (f p v q w i t) (s.high, (less c.v w s.low, tt))) (x.high, (at_most_opposite lo q x.low, tt))
 
 pub plane_holds_none : (c : Course) (lo hi : ℤ) (vs frame : List Pt) → HoldsFrame (nat_abs c.a) c.k vs frame → KeepsParts (speeds c.v) frame None → HoldsPlane c lo hi vs None
 plane_holds_none c lo hi vs frame f h p v q w i t s x = absurd (h (at q w) (f p v q w i t) (s.high, (less c.v w s.low, tt)))

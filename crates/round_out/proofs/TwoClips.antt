@@ -19,14 +19,12 @@ use Rattle.round_out.specs.Clips.{KeepsSide, StaysInBox, StaysOnSide, IsAxis, re
 use Rattle.round_out.specs.Parts.{IsPart, KeepsParts, StaysBetween, StaysSlow, GainsAtMostTwo}
 use Rattle.round_out.specs.declared.clips.Side.{Side}
 use Rattle.round_out.specs.declared.clips.Side.TheVariants.{XMax, XMin, VMax, VMin}
+use Rattle.spot_terms.proofs.Orders.{at_most_trans}
 
 -- a polygon has a support in each direction
 support_of : (n : Normal) (vs : List Pt) → IsCornerList vs → IsSupport vs n.0 n.1 (support n vs)
 support_of n [] c = absurd c
 support_of n (v ∷ vs) c = supports_are.greatest n v vs
-
-trans : (a b c : ℤ) → a ≤ℤ b → b ≤ℤ c → a ≤ℤ c
-trans a b c p q = omega (arith, ints)
 
 module _ (t u : Reflection) (a b : ℤ) (vs half : List Pt) where
   pub second_part : (left : Option (List Pt)) → IsClip t a vs (Some half) → IsClip u b half left → IsPart ((t, a) ∷ (u, b) ∷ []) vs left
@@ -39,7 +37,7 @@ module _ (t u : Reflection) (a b : ℤ) (vs half : List Pt) where
 -- along the axes what both leave reaches no further than the polygon
 pub second_in_box : (vs half : List Pt) (left : Option (List Pt)) → IsCornerList half → StaysInBox vs (Some half) → StaysInBox half left → StaysInBox vs left
 second_in_box vs half None c h g = tt
-second_in_box vs half (Some left) c h g = λ nx ny a b x s t. trans _ _ _ (g nx ny _ b x (support_of (nx, ny) half c) t) (h nx ny a _ x s (support_of (nx, ny) half c))
+second_in_box vs half (Some left) c h g = λ nx ny a b x s t. at_most_trans _ _ _ (g nx ny _ b x (support_of (nx, ny) half c) t) (h nx ny a _ x s (support_of (nx, ny) half c))
 
 pub second_few : (vs half : List Pt) (left : Option (List Pt)) → GainsAtMostOne vs (Some half) → GainsAtMostOne half left → GainsAtMostTwo vs left
 second_few vs half None h g = tt

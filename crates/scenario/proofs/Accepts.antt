@@ -2,7 +2,7 @@
 use Rattle.std.proofs.Common.{◌≡◌, ◌∙◌, ◌⊎◌, inl, inr, ℕ, ◌<◌, ◌≤◌, List, [], ◌∷◌, ◌++◌, get_or, Option, Some, None, Bool, true, false, refl, sym, ap, subst, arith, codes, IsTrue, is_none, lit<, append-nil, not, ◌==◌, ◌||◌, ◌&&◌, nat_lt}
 use Rattle.std.specs.List.{list_all, flat_map, filter_map, count_by}
 use Rattle.spot_terms.proofs.Members.{in_flat_map}
-use Rattle.spot_terms.proofs.ListLemmas.{includes_back, includes_front}
+use Rattle.spot_terms.proofs.ListLemmas.{includes_back, includes_front, includes_flat_map}
 use Rattle.spot_terms.specs.Lists.{Includes, At}
 use Rattle.spot_terms.specs.declared.status.Code.TheVariants.{Missing, UncertainPosition, UncertainValue}
 use Rattle.spot_claims.specs.Tree.{Element, all_named, first_named, text_at}
@@ -64,11 +64,6 @@ pub through_first : {X Y : Type 0} (f : X → Option Y) (xs : List X) (x : X) (y
 through_first f [] x y h e = absurd h
 through_first f (z ∷ xs) x y (inl s) e = some_in f z xs y (ap f (sym s) ∙ e)
 through_first f (z ∷ xs) x y (inr h) e = rest_in f z xs y (f z) refl (through_first f xs x y h e)
-
-pub through_each : {X Y : Type 0} (f : X → List Y) (xs : List X) (x : X) (y : Y) → Includes xs x → Includes (f x) y → Includes (flat_map f xs) y
-through_each f [] x y h k = absurd h
-through_each f (z ∷ xs) x y (inl s) k = let P : _ → Type 0 = λ w. Includes (f w) y in includes_front (f z) (flat_map f xs) y (subst P s k)
-through_each f (z ∷ xs) x y (inr h) k = includes_back (f z) (flat_map f xs) y (through_each f xs x y h k)
 
 one_more : (tree : List Element) (s w : Path) (e : ℕ) (name : List ℕ) (c : ℕ) → Includes (walk tree w (at_path tree s)) e → first_named tree name e ≡ Some c → Includes (walk tree (to_first w name) (at_path tree s)) c
 one_more tree s w e name c here is =
@@ -186,15 +181,15 @@ has_rectangle tree ok s e start here =
 
 has_corners : (tree : List Element) → IsAccepted tree → (s : Path) (e : ℕ) → Includes obstacles s → Includes (walk tree polygon (at_path tree s)) e → HasCorners tree (all_named tree (codes "point") e)
 has_corners tree ok s e start here = λ n listed.
-    point_has tree ok profile.shape_point_line profile.shape_number_line s corner n shape_coordinate (line_in 8 (lit< tt)) start (inl refl) (through_each (all_named tree (codes "point")) (walk tree polygon (at_path tree s)) e n here listed) refl (line_in 19 (lit< tt)) start (inl refl) (inr (inl refl)) refl refl
+    point_has tree ok profile.shape_point_line profile.shape_number_line s corner n shape_coordinate (line_in 8 (lit< tt)) start (inl refl) (includes_flat_map (all_named tree (codes "point")) (walk tree polygon (at_path tree s)) e n here listed) refl (line_in 19 (lit< tt)) start (inl refl) (inr (inl refl)) refl refl
 
 pub has_shape : (tree : List Element) → IsAccepted tree → (s : Path) (o e : ℕ) → Includes obstacles s → Includes (at_path tree s) o → first_named tree (codes "shape") o ≡ Some e → HasShape tree e
 has_shape tree ok s o e start here is =
     let e_in = through_first (first_named tree (codes "shape")) (at_path tree s) o e here is in
     record {
-      circles = λ p listed. has_circle tree ok s p start (through_each (all_named tree (codes "circle")) (walk tree shape (at_path tree s)) e p e_in listed);
-      rectangles = λ p listed. has_rectangle tree ok s p start (through_each (all_named tree (codes "rectangle")) (walk tree shape (at_path tree s)) e p e_in listed);
-      polygons = λ p listed. has_corners tree ok s p start (through_each (all_named tree (codes "polygon")) (walk tree shape (at_path tree s)) e p e_in listed);
+      circles = λ p listed. has_circle tree ok s p start (includes_flat_map (all_named tree (codes "circle")) (walk tree shape (at_path tree s)) e p e_in listed);
+      rectangles = λ p listed. has_rectangle tree ok s p start (includes_flat_map (all_named tree (codes "rectangle")) (walk tree shape (at_path tree s)) e p e_in listed);
+      polygons = λ p listed. has_corners tree ok s p start (includes_flat_map (all_named tree (codes "polygon")) (walk tree shape (at_path tree s)) e p e_in listed);
       some = false_of (lacks_all tree e (codes "rectangle" ∷ codes "circle" ∷ codes "polygon" ∷ [])) (no_fail tree ok profile.shape_line s shape e 0 (lacks_each_child Missing (codes "rectangle" ∷ codes "circle" ∷ codes "polygon" ∷ [])) (line_in 4 (lit< tt)) start (inl refl) e_in refl);
     }
 
@@ -271,7 +266,7 @@ has_mover tree ok e here =
       start_has = has_start tree ok (to_first dynamics (codes "initialState")) h.start (inl refl) (through_first (first_named tree (codes "initialState")) (at_path tree dynamics) e h.start here h.start_is);
       states = λ n listed.
           let t = of_first tree (codes "trajectory") e (first_named tree (codes "trajectory") e) n (codes "state") refl listed in
-          has_recorded tree ok n (through_each (all_named tree (codes "state")) (walk tree (first_child (codes "trajectory") ∷ []) (at_path tree dynamics)) t.0 n (through_first (first_named tree (codes "trajectory")) (at_path tree dynamics) e t.0 here t.1) t.2);
+          has_recorded tree ok n (includes_flat_map (all_named tree (codes "state")) (walk tree (first_child (codes "trajectory") ∷ []) (at_path tree dynamics)) t.0 n (through_first (first_named tree (codes "trajectory")) (at_path tree dynamics) e t.0 here t.1) t.2);
     }
 
 -- ---- lanelets
@@ -284,7 +279,7 @@ bound_has : (tree : List Element) → IsAccepted tree → (e : ℕ) (bound : Lis
 bound_has tree ok e bound here way x_way y_way = λ n listed.
     let t = of_first tree bound e (first_named tree bound e) n (codes "point") refl listed in
     point_has tree ok profile.bound_point_line profile.bound_number_line lanelets (first_child bound ∷ each_child (codes "point") ∷ []) n coordinate (line_in 2 (lit< tt)) (inl refl) way
-    (through_each (all_named tree (codes "point")) (walk tree (first_child bound ∷ []) (at_path tree lanelets)) t.0 n (through_first (first_named tree bound) (at_path tree lanelets) e t.0 here t.1) t.2)
+    (includes_flat_map (all_named tree (codes "point")) (walk tree (first_child bound ∷ []) (at_path tree lanelets)) t.0 n (through_first (first_named tree bound) (at_path tree lanelets) e t.0 here t.1) t.2)
     refl (line_in 17 (lit< tt)) (inl refl) x_way y_way refl refl
 
 pub has_lane : (tree : List Element) → IsAccepted tree → (e : ℕ) → Includes (at_path tree lanelets) e → HasLane tree e

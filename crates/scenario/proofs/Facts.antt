@@ -21,6 +21,7 @@ use Rattle.spot_terms.specs.declared.scenario.RawLane.{RawLane}
 use Rattle.scenario.specs.Has.{HasLane}
 use Rattle.scenario.specs.Kinds.{kind_in, key_of, view_of}
 use Rattle.scenario.specs.declared.items.NamedKind.{NamedKind}
+use Rattle.spot_terms.proofs.ListLemmas.{pairwise_length}
 
 pub problem_is : (tree : List Element) (e : ℕ) (p : Problem) (start : ℕ) (x y v a : ℤ) → p.place ≡ e → p.x ≡ x → p.y ≡ y → p.speed ≡ v → p.angle ≡ a → id_at tree e ≡ Some p.id → first_named tree (codes "initialState") e ≡ Some start
     → HoldsPosition tree start x y → HoldsExact tree start (codes "velocity") 3 v → HoldsExact tree start (codes "orientation") 6 a → HoldsExact tree start (codes "time") 0 (pos p.time) → IsProblem tree e p
@@ -96,17 +97,11 @@ pair_in p q a b h k =
     let P : ℤ → Type 0 = λ z. nat_abs z ≤ 10_000_000_000_000 in
     record { x = subst P (sym a) h; y = subst P (sym b) k }
 
-pub pair_length : {A B : Type 0} (R : A → B → Type 0) (xs : List A) (ys : List B) → Pairwise R xs ys → length xs ≡ length ys
-pair_length R [] [] h = refl
-pair_length R [] (y ∷ ys) h = absurd h
-pair_length R (x ∷ xs) [] h = absurd h
-pair_length R (x ∷ xs) (y ∷ ys) h = let k = pair_length R xs ys h.1 in omega (arith, k)
-
 pub lane_in : (tree : List Element) (e : ℕ) (l : RawLane) → HasLane tree e → Pairwise (IsPair tree) (bound_points tree (codes "leftBound") e) l.left → Pairwise (IsPair tree) (bound_points tree (codes "rightBound") e) l.right
     → AllByRecursion IsPairInRange l.left → AllByRecursion IsPairInRange l.right → IsLaneInRange l
 lane_in tree e l has left right a b =
-    let n = pair_length (IsPair tree) (bound_points tree (codes "leftBound") e) l.left left in
-    let m = pair_length (IsPair tree) (bound_points tree (codes "rightBound") e) l.right right in
+    let n = pairwise_length (IsPair tree) (bound_points tree (codes "leftBound") e) l.left left in
+    let m = pairwise_length (IsPair tree) (bound_points tree (codes "rightBound") e) l.right right in
     let even = has.even in
     let some = has.some in
     record { even = sym n ∙ (even ∙ m); some = omega (arith, n, some); left = a; right = b }

@@ -16,6 +16,7 @@ use Rattle.scenario.specs.declared.table.Check.{Check}
 use Rattle.scenario.specs.declared.table.Line.{Line}
 use Rattle.scenario.specs.declared.fault.Fault.{Fault}
 use Rattle.scenario.proofs.Members.{in_last, in_more, at_map, map_at}
+use Rattle.spot_terms.proofs.Orders.{below_or_at_least}
 
 -- ---- the order
 
@@ -98,12 +99,9 @@ one_end P xs i o h p = let Q : List _ → Type 0 = λ l. Least (OneOf P l) o in 
 
 -- ---- the checks of one element
 
-below_or : (j n : ℕ) → (j < n) ⊎ (n ≤ j)
-below_or j n = grind arith
-
 not_before : (tree : List Element) (checks : List Check) (e n j : ℕ) (d : Check) (check : profile.Check) → ((k : ℕ) → k < n → FailsAt tree e (check_of (get_or checks k d)) → ⊥)
     → ((j < length checks) × (check ≡ check_of (get_or checks j d))) → FailsAt tree e check → n ≤ j
-not_before tree checks e n j d check none at fails = elim (below_or j n) [
+not_before tree checks e n j d check none at fails = elim (below_or_at_least j n) [
   | inl l ↦ let P : profile.Check → Type 0 = λ k. FailsAt tree e k in absurd (none j l (subst P at.1 fails))
   | inr l ↦ l
 ]

@@ -19,10 +19,10 @@ use Rattle.scenario.proofs.Members.{in_last, in_more, any_in, none_in}
 
 -- ---- an element without an id
 
-no_both : (o : Option ℕ) (i : ℕ) → o ≡ None → o ≡ Some i → ⊥
+pub no_both : (o : Option ℕ) (i : ℕ) → o ≡ None → o ≡ Some i → ⊥
 no_both o i e f = cc
 
-two_ids : (o : Option ℕ) (k i : ℕ) → o ≡ Some k → o ≡ Some i → k ≡ i
+pub two_ids : (o : Option ℕ) (k i : ℕ) → o ≡ Some k → o ≡ Some i → k ≡ i
 two_ids o k i e f = cc
 
 skip : (tree : List Element) (es : List ℕ) (x i : ℕ) (o : Option ℕ) → FirstIs tree es i o → id_at tree x ≡ None → FirstIs tree (es ++ x ∷ []) i o

@@ -14,8 +14,9 @@ use Rattle.spot_tree.proofs.Parents.{distinct_children}
 use Rattle.scenario.proofs.Accepts.{no_second_lanelet, no_second_obstacle, no_second_problem}
 use Rattle.scenario.proofs.Few.{Statics, Dynamics, Both, both_named, both_are}
 use Rattle.scenario.proofs.Firsts.{second_at}
-use Rattle.scenario.proofs.Members.{any_in, pair_append}
+use Rattle.scenario.proofs.Members.{any_in}
 use Rattle.scenario.proofs.Rises.{in_filter}
+use Rattle.spot_terms.proofs.ListLemmas.{pairwise_append}
 
 -- ---- what distinct items tell
 
@@ -95,7 +96,7 @@ unique_obstacles tree ok is fs ms p q =
     let Q : List ℕ → Type 0 = λ l. (e : ℕ) → Includes l e → is_second tree l e ≡ true → ⊥ in
     let a = tell_ids (id_at tree) (IsFixed tree) (λ f. f.id) (λ e f h. h.id) (Statics tree) fs (subst P (append-nil (Statics tree)) p) in
     let b = tell_ids (id_at tree) (IsMover tree) (λ m. m.id) (λ e m h. h.id) (Dynamics tree) ms (subst M (append-nil (Dynamics tree)) q) in
-    distinct_ids (id_at tree) (Both tree) (map (λ f. f.id) fs ++ map (λ m. m.id) ms) (pair_append (Tells (id_at tree)) (Statics tree) (Dynamics tree) (map (λ f. f.id) fs) (map (λ m. m.id) ms) a b)
+    distinct_ids (id_at tree) (Both tree) (map (λ f. f.id) fs ++ map (λ m. m.id) ms) (pairwise_append (Tells (id_at tree)) (Statics tree) (Dynamics tree) (map (λ f. f.id) fs) (map (λ m. m.id) ms) a b)
     (distinct_obstacles tree is) (no_two tree (Both tree) (subst Q (both_are tree) (no_second_obstacle tree ok)))
 
 pub unique_ids : (tree : List Element) → IsAccepted tree → IsTree tree → (s : Scenario) → Pairwise (IsLane tree) (at_path tree lanelets) s.lanelets.entries → Pairwise (IsMover tree) (at_path tree dynamics) s.movers

@@ -3,7 +3,7 @@ use Rattle.std.proofs.Common.{◌≡◌, ◌∙◌, ◌⊎◌, inl, inr, ℕ, ze
 use Rattle.std.specs.List.{AllByRecursion, filter, filter_map, list_any, list_all, find}
 use Rattle.std.proofs.lemmas.List.{take_more, take_all}
 use Rattle.spot_terms.specs.Lists.{Includes, At, Pairwise}
-use Rattle.spot_terms.proofs.ListLemmas.{includes_back, includes_either, includes_map}
+use Rattle.spot_terms.proofs.ListLemmas.{includes_back, includes_either, includes_map, pairwise_push}
 
 pub in_last : {X : Type 0} (xs : List X) (x : X) → Includes (xs ++ x ∷ []) x
 in_last xs x = includes_back xs (x ∷ []) x (inl refl)
@@ -115,33 +115,21 @@ found_in p xs x e = first_in (filter p xs) x (sym (find_first p xs) ∙ e)
 
 -- ---- two lists in step
 
-pub pair_more : {A B : Type 0} (R : A → B → Type 0) (xs : List A) (ys : List B) (x : A) (y : B) → Pairwise R xs ys → R x y → Pairwise R (xs ++ x ∷ []) (ys ++ y ∷ [])
-pair_more R [] [] x y h k = (k, tt)
-pair_more R [] (z ∷ ys) x y h k = absurd h
-pair_more R (w ∷ xs) [] x y h k = absurd h
-pair_more R (w ∷ xs) (z ∷ ys) x y h k = (h.0, pair_more R xs ys x y h.1 k)
-
 pub pair_taken : {A B : Type 0} (R : A → B → Type 0) (xs : List A) (ys zs : List B) (i : ℕ) (d : A) (y : B) → i < length xs → zs ≡ ys ++ y ∷ [] → Pairwise R (take i xs) ys → R (get_or xs i d) y → Pairwise R (take (i + 1) xs) zs
 pair_taken R xs ys zs i d y h e p k =
     let P : List _ → Type 0 = λ l. Pairwise R l zs in
     let Q : List _ → Type 0 = λ l. Pairwise R (take i xs ++ get_or xs i d ∷ []) l in
-    subst P (sym (take_more xs i d h)) (subst Q (sym e) (pair_more R (take i xs) ys (get_or xs i d) y p k))
+    subst P (sym (take_more xs i d h)) (subst Q (sym e) (pairwise_push R (take i xs) ys (get_or xs i d) y p k))
 
 -- behind one more pair
 pub pair_behind : {A B : Type 0} (R : A → B → Type 0) (s : A) (xs : List A) (ys zs : List B) (i : ℕ) (d : A) (y : B) → i < length xs → zs ≡ ys ++ y ∷ [] → Pairwise R (s ∷ take i xs) ys → R (get_or xs i d) y → Pairwise R (s ∷ take (i + 1) xs) zs
 pair_behind R s xs ys zs i d y h e p k =
     let P : List _ → Type 0 = λ l. Pairwise R (s ∷ l) zs in
     let Q : List _ → Type 0 = λ l. Pairwise R (s ∷ (take i xs ++ get_or xs i d ∷ [])) l in
-    subst P (sym (take_more xs i d h)) (subst Q (sym e) (pair_more R (s ∷ take i xs) ys (get_or xs i d) y p k))
+    subst P (sym (take_more xs i d h)) (subst Q (sym e) (pairwise_push R (s ∷ take i xs) ys (get_or xs i d) y p k))
 
 pub pair_end : {A B : Type 0} (R : A → B → Type 0) (xs : List A) (ys : List B) (i : ℕ) → length xs ≤ i → Pairwise R (take i xs) ys → Pairwise R xs ys
 pair_end R xs ys i h p = let P : List _ → Type 0 = λ l. Pairwise R l ys in subst P (take_all i xs h) p
-
-pub pair_append : {A B : Type 0} (R : A → B → Type 0) (xs us : List A) (ys vs : List B) → Pairwise R xs ys → Pairwise R us vs → Pairwise R (xs ++ us) (ys ++ vs)
-pair_append R [] us [] vs p q = q
-pair_append R [] us (y ∷ ys) vs p q = absurd p
-pair_append R (x ∷ xs) us [] vs p q = absurd p
-pair_append R (x ∷ xs) us (y ∷ ys) vs p q = (p.0, pair_append R xs us ys vs p.1 q)
 
 pub each_more : {A : Type 0} (P : A → Type 0) (xs ys : List A) (x : A) → ys ≡ xs ++ x ∷ [] → AllByRecursion P xs → P x → AllByRecursion P ys
 each_more P xs ys x e h k = let Q : List _ → Type 0 = λ l. AllByRecursion P l in subst Q (sym e) (each_last P xs x h k)

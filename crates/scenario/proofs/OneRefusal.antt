@@ -4,7 +4,7 @@ use Rattle.std.specs.List.{flat_map, list_any}
 use Rattle.std.specs.Str.{bytes_eq}
 use Rattle.std.specs.Cmp.Lexicographic.{bytes_decides}
 use Rattle.spot_terms.proofs.Members.{in_flat_map}
-use Rattle.spot_terms.proofs.ListLemmas.{includes_map}
+use Rattle.spot_terms.proofs.ListLemmas.{includes_map, includes_flat_map}
 use Rattle.spot_terms.specs.Lists.{Includes, At}
 use Rattle.spot_terms.specs.declared.status.Code.{Code}
 use Rattle.spot_terms.specs.declared.status.Code.TheVariants.{Missing, BadNumber, OutOfRange, BadId, DuplicateId, BoundCount, UncertainPosition, UncertainValue, TooManyParticipants}
@@ -13,7 +13,6 @@ use Rattle.spot_claims.specs.Paths.{Step, each_child, first_child, Path, take_st
 use Rattle.spot_claims.specs.Profile.{Line, profile, root_line, code_of, IsReadBy, TreeHasOneRefusal}
 use Rattle.spot_tree.proofs.Parents.{root_is_no_child}
 use Rattle.scenario.proofs.Members.{in_filter_map, found_in}
-use Rattle.scenario.proofs.Accepts.{through_each}
 use Rattle.scenario.proofs.Rises.{in_filter}
 
 -- ---- the name at the end of a path
@@ -107,7 +106,7 @@ told : (tree : List Element) (row : Line) (e : ℕ) → Includes others row → 
 told tree row e listed read =
     let steps = same_images takes_a_step (λ start. true) row.starts read.start (same_images (λ r. map takes_a_step r.starts) (λ r. map (λ start. true) r.starts) others row starts_step listed) read.is_start in
     let name = end_from (end_from [] read.start) read.way in
-    let end = through_each (λ start. map (end_from (end_from [] start)) row.ways) row.starts read.start name read.is_start (includes_map (end_from (end_from [] read.start)) row.ways read.way read.is_way) in
+    let end = includes_flat_map (λ start. map (end_from (end_from [] start)) row.ways) row.starts read.start name read.is_start (includes_map (end_from (end_from [] read.start)) row.ways read.way read.is_way) in
     record {
       name = name;
       named = named_from tree e read.start read.way steps read.leads;

@@ -15,8 +15,11 @@ use Rattle.scenario.specs.Radii.{CircleIs, RectangleIs, PolygonIs, IsReach, IsGr
 use Rattle.scenario.specs.declared.shapes.Radii.{Radii}
 use Rattle.scenario.specs.declared.shapes.Part.{Part}
 use Rattle.scenario.specs.declared.shapes.Part.TheVariants.{Circle, Rectangle, Polygon}
-use Rattle.scenario.proofs.Unique.{holds_one, root_one, least_one}
+use Rattle.scenario.proofs.Unique.{holds_one, root_one}
 use Rattle.scenario.proofs.Members.{in_last, in_more, find_nothing}
+use Rattle.spot_terms.proofs.Orders.{pos_injective}
+use Rattle.spot_terms.proofs.Unique.{least_one}
+use Rattle.scenario.proofs.Firsts.{no_both, two_ids}
 
 -- ---- distances
 
@@ -58,18 +61,12 @@ reach_more tree es i r d p h before at root =
 
 -- ---- each part has one of each radius
 
-two_centres : (o : Option ℕ) (n : ℕ) → o ≡ None → o ≡ Some n → ⊥
-two_centres o n e f = cc
-
-same_centre : (o : Option ℕ) (n m : ℕ) → o ≡ Some n → o ≡ Some m → n ≡ m
-same_centre o n m e f = cc
-
 offset_one : (tree : List Element) (e c d : ℕ) → IsOffset tree e c → IsOffset tree e d → c ≡ d
 offset_one tree e c d (inl a) (inl b) = a.1 ∙ sym b.1
-offset_one tree e c d (inl a) (inr b) = absurd (two_centres (first_named tree (codes "center") e) b.0 a.0 b.2)
-offset_one tree e c d (inr a) (inl b) = absurd (two_centres (first_named tree (codes "center") e) a.0 b.0 a.2)
+offset_one tree e c d (inl a) (inr b) = absurd (no_both (first_named tree (codes "center") e) b.0 a.0 b.2)
+offset_one tree e c d (inr a) (inl b) = absurd (no_both (first_named tree (codes "center") e) a.0 b.0 a.2)
 offset_one tree e c d (inr a) (inr b) =
-    let same : b.0 ≡ a.0 = same_centre (first_named tree (codes "center") e) b.0 a.0 b.2 a.2 in
+    let same : b.0 ≡ a.0 = two_ids (first_named tree (codes "center") e) b.0 a.0 b.2 a.2 in
     let P : ℕ → Type 0 = λ m. HoldsPt tree m b.1 in
     let at : HoldsPt tree a.0 b.1 = subst P same b.3 in
     let sx : a.1.x ≡ b.1.x = holds_one tree a.0 (codes "x") 6 a.1.x b.1.x a.3.x at.x in
@@ -78,11 +75,8 @@ offset_one tree e c d (inr a) (inr b) =
     let Y : ℤ → Type 0 = λ z. IsRootCeiling (square a.1.x + square z) c in
     root_one (square b.1.x + square b.1.y) c d (subst X sx (subst Y sy a.4)) b.4
 
-of_pos : (n m : ℕ) → pos n ≡ pos m → n ≡ m
-of_pos n m e = cc
-
 size_one : (tree : List Element) (e : ℕ) (name : List ℕ) (n m : ℕ) → Holds tree e name 6 (pos n) → Holds tree e name 6 (pos m) → n ≡ m
-size_one tree e name n m h k = of_pos n m (holds_one tree e name 6 (pos n) (pos m) h k)
+size_one tree e name n m h k = pos_injective n m (holds_one tree e name 6 (pos n) (pos m) h k)
 
 circle_one : (tree : List Element) (e a b c d : ℕ) → CircleIs tree e a b → CircleIs tree e c d → (c ≡ a) × (d ≡ b)
 circle_one tree e a b c d h k =

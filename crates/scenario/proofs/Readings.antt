@@ -8,19 +8,20 @@ use Rattle.spot_terms.specs.Decimal.{Reads, fraction_of}
 use Rattle.spot_claims.specs.Profile.{Number, IsTooLarge, IsOutside, IsUneven, is_bad_number}
 use Rattle.spot_terms.specs.Whole.{Within}
 use Rattle.scenario.specs.Has.{IsGood}
-use Rattle.scenario.proofs.Unique.{reading_one}
+use Rattle.spot_terms.proofs.Orders.{at_most_or_above}
+use Rattle.spot_decimal.proofs.Signs.{reads_once}
 
 not_large : (places : ℕ) (text : List ℕ) (z : ℤ) → Reads places text z → nat_abs z ≤ 10 ^ 18 → IsTooLarge places text → ⊥
 not_large places text z h few large =
     let P : ℤ → Type 0 = λ r. nat_abs r ≤ 10 ^ 18 in
-    let few2 : nat_abs large.reading ≤ 10 ^ 18 = subst P (reading_one places text z large.reading h large.reads.reads) few in
+    let few2 : nat_abs large.reading ≤ 10 ^ 18 = subst P (reads_once places text z large.reading h large.reads.reads) few in
     let past = large.large in omega arith
 
 outside_of : (n : Number) (text : List ℕ) (z : ℤ) (b : Bool) → Reads n.places text z → nat_abs z ≤ 10 ^ 18 → (((z <ℤ n.least) ⊎ (n.most <ℤ z)) → IsTrue b) → IsTooLarge n.places text ⊎ IsOutside n text → IsTrue b
 outside_of n text z b h few past (inl large) = absurd (not_large n.places text z h few large)
 outside_of n text z b h few past (inr out) =
     let P : ℤ → Type 0 = λ r. (r <ℤ n.least) ⊎ (n.most <ℤ r) in
-    past (subst P (reading_one n.places text out.reading z out.reads.reads h) out.outside)
+    past (subst P (reads_once n.places text out.reading z out.reads.reads h) out.outside)
 
 -- a number of this size as the code holds it
 pub held_is : (z : ℤ) → nat_abs z ≤ 10 ^ 18 → to_z w128 (of_z w128 z) ≡ z
@@ -40,21 +41,18 @@ step_none (Some k) text z short h few none = tt
 
 pub step_some : (o : Option ℕ) (text : List ℕ) (z : ℤ) → Reads 6 text z → nat_abs z ≤ 10 ^ 18 → IfSome o (λ k. (1 ≤ k) × (k ≤ 1000) × (to_z w128 (of_z w128 z) ≡ pos (1000 * k))) → IfSome o (λ k. IsUneven text → ⊥)
 step_some None text z h few some = tt
-step_some (Some k) text z h few some = λ u. u.uneven k some.0 some.1 (reading_one 6 text u.reading z u.reads.reads h ∙ (sym (held_is z few) ∙ some.2))
+step_some (Some k) text z h few some = λ u. u.uneven k some.0 some.1 (reads_once 6 text u.reading z u.reads.reads h ∙ (sym (held_is z few) ∙ some.2))
 
 -- ---- the reading of a good number
 
-low_or : (a b : ℤ) → (a ≤ℤ b) ⊎ (b <ℤ a)
-low_or a b = grind (arith, ints)
-
 low_of : (n : Number) (text : List ℕ) (z : ℤ) → length text ≤ 64 → Reads n.places text z → (IsTooLarge n.places text ⊎ IsOutside n text → ⊥) → n.least ≤ℤ z
-low_of n text z short h fits = elim (low_or n.least z) [
+low_of n text z short h fits = elim (at_most_or_above n.least z) [
   | inl l ↦ l
   | inr out ↦ absurd (fits (inr (record { reading = z; reads = record { short = short; reads = h }; outside = inl out })))
 ]
 
 high_of : (n : Number) (text : List ℕ) (z : ℤ) → length text ≤ 64 → Reads n.places text z → (IsTooLarge n.places text ⊎ IsOutside n text → ⊥) → z ≤ℤ n.most
-high_of n text z short h fits = elim (low_or z n.most) [
+high_of n text z short h fits = elim (at_most_or_above z n.most) [
   | inl l ↦ l
   | inr out ↦ absurd (fits (inr (record { reading = z; reads = record { short = short; reads = h }; outside = inr out })))
 ]

@@ -5,7 +5,7 @@ use Rattle.std.specs.List.{filter}
 use Rattle.std.specs.Map.{lookup}
 use Rattle.std.proofs.lemmas.Bool.Decides.{eqb_tells}
 use Rattle.std.proofs.lemmas.List.Elements.{filter_more}
-use Rattle.spot_terms.proofs.ListLemmas.{includes_front}
+use Rattle.spot_terms.proofs.ListLemmas.{includes_front, pairwise_push}
 use Rattle.spot_terms.specs.Lists.{Includes, Pairwise}
 use Rattle.spot_terms.specs.declared.scenario.RawLane.{RawLane}
 use Rattle.spot_claims.specs.Tree.{Element, Rising, is_called, all_named}
@@ -14,7 +14,7 @@ use Rattle.spot_claims.specs.Profile.{IsAccepted}
 use Rattle.spot_claims.specs.Scenario.{IsLane}
 use Rattle.scenario.specs.Lanes.{AddsLane, AreInRange}
 use Rattle.scenario.proofs.Accepts.{not_again}
-use Rattle.scenario.proofs.Members.{pair_more, each_more}
+use Rattle.scenario.proofs.Members.{each_more}
 
 -- ---- numbers that rise
 
@@ -103,7 +103,7 @@ lanes_more tree cs n before after h called adds p =
     let more : filter (IsLanelet tree) (take (n + 1) cs) ≡ filter (IsLanelet tree) (take n cs) ++ x ∷ [] = filter_more (IsLanelet tree) cs n 0 h ∙ ap (λ b. filter (IsLanelet tree) (take n cs) ++ cond b (x ∷ []) []) called in
     let P : List ℕ → Type 0 = λ l. Pairwise (IsLane tree) l after in
     let Q : List (ℕ × RawLane) → Type 0 = λ l. Pairwise (IsLane tree) (filter (IsLanelet tree) (take n cs) ++ x ∷ []) l in
-    subst P (sym more) (subst Q (sym adds.after_is) (pair_more (IsLane tree) (filter (IsLanelet tree) (take n cs)) before x adds.entry p adds.is))
+    subst P (sym more) (subst Q (sym adds.after_is) (pairwise_push (IsLane tree) (filter (IsLanelet tree) (take n cs)) before x adds.entry p adds.is))
 
 pub lanes_same : (tree : List Element) (cs : List ℕ) (n : ℕ) (entries : List (ℕ × RawLane)) → n < length cs → IsLanelet tree (get_or cs n 0) ≡ false
     → Pairwise (IsLane tree) (filter (IsLanelet tree) (take n cs)) entries → Pairwise (IsLane tree) (filter (IsLanelet tree) (take (n + 1) cs)) entries

@@ -17,27 +17,27 @@ use Rattle.scenario.specs.Has.{HasNumber, HasExact, HasPosition, HasRecorded, Ha
 use Rattle.scenario.proofs.Accepts.{has_mover}
 use Rattle.scenario.proofs.Facts.{one_child}
 use Rattle.scenario.proofs.Readings.{within_of}
-use Rattle.scenario.proofs.Unique.{both_some}
+use Rattle.spot_terms.proofs.Unique.{some_one}
 
 -- ---- numbers
 
 within_number : (tree : List Element) (e : ℕ) (name : List ℕ) (n : Number) (r : ℤ) → HasNumber tree e name n → Holds tree e name n.places r → Within n.least n.most r
 within_number tree e name n r has holds =
-    let same : holds.0 ≡ has.child = both_some (first_named tree name e) holds.0 has.child holds.1 has.child_is in
+    let same : holds.0 ≡ has.child = some_one (first_named tree name e) holds.0 has.child holds.1 has.child_is in
     let P : ℕ → Type 0 = λ c. Reads n.places (text_at tree c) r in
     within_of n (text_at tree has.child) r has.good (subst P same holds.2)
 
 within_exact : (tree : List Element) (e : ℕ) (name : List ℕ) (n : Number) (r : ℤ) → HasExact tree e name n → HoldsExact tree e name n.places r → Within n.least n.most r
 within_exact tree e name n r has holds =
-    let same : holds.0 ≡ has.child = both_some (first_named tree name e) holds.0 has.child holds.1 has.child_is in
+    let same : holds.0 ≡ has.child = some_one (first_named tree name e) holds.0 has.child holds.1 has.child_is in
     let P : ℕ → Type 0 = λ c. Holds tree c (codes "exact") n.places r in
     within_number tree has.child (codes "exact") n r has.exact (subst P same holds.2)
 
 within_position : (tree : List Element) (e : ℕ) (x y : ℤ) → HasPosition tree e → HoldsPosition tree e x y → Within coordinate.least coordinate.most x × Within coordinate.least coordinate.most y
 within_position tree e x y has holds =
-    let same : holds.0 ≡ has.position = both_some (first_named tree (codes "position") e) holds.0 has.position holds.2 has.position_is in
+    let same : holds.0 ≡ has.position = some_one (first_named tree (codes "position") e) holds.0 has.position holds.2 has.position_is in
     let P : ℕ → Type 0 = λ c. first_named tree (codes "point") c ≡ Some holds.1 in
-    let point : holds.1 ≡ has.point = both_some (first_named tree (codes "point") has.position) holds.1 has.point (subst P same holds.3) has.point_is in
+    let point : holds.1 ≡ has.point = some_one (first_named tree (codes "point") has.position) holds.1 has.point (subst P same holds.3) has.point_is in
     let X : ℕ → Type 0 = λ c. Holds tree c (codes "x") 6 x in
     let Y : ℕ → Type 0 = λ c. Holds tree c (codes "y") 6 y in
     (within_number tree has.point (codes "x") coordinate x has.has.x (subst X point holds.4), within_number tree has.point (codes "y") coordinate y has.has.y (subst Y point holds.5))

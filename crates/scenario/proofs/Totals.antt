@@ -2,7 +2,7 @@
 use Rattle.std.proofs.Common.{◌≡◌, inl, inr, ℕ, ◌+◌, ◌≤◌, List, [], ◌∷◌, ◌++◌, length, Option, Some, None, refl, ap, subst, arith, codes, length-append, append-nil}
 use Rattle.std.specs.List.{filter_map, flat_map}
 use Rattle.spot_terms.proofs.Members.{in_flat_map}
-use Rattle.spot_terms.proofs.ListLemmas.{includes_either}
+use Rattle.spot_terms.proofs.ListLemmas.{includes_either, pairwise_length}
 use Rattle.spot_terms.specs.Lists.{Includes, Pairwise}
 use Rattle.spot_terms.specs.Ranges.{recorded_count, lane_size, lanes_size}
 use Rattle.spot_terms.specs.declared.scenario.RawLane.{RawLane}
@@ -12,7 +12,6 @@ use Rattle.spot_terms.proofs.Distinct.{distinct_append, distinct_flat_map}
 use Rattle.spot_claims.specs.Tree.{Element, IsTree, all_named}
 use Rattle.spot_claims.specs.Paths.{first_child, at_path, lanelets, dynamics, problems}
 use Rattle.spot_claims.specs.Scenario.{below, IsPair, IsLane, IsRecorded, IsMover, IsProblem, recorded_of, reference_at, neighbour_at}
-use Rattle.scenario.proofs.Facts.{pair_length}
 use Rattle.scenario.proofs.Owned.{IsOwned, Apart, Through, owned_named, owned_first, owned_through, owned_joined, apart_joined, apart_named, apart_below, apart_ways, few_owned, few_distinct, child_named, first_child_named, grandchild_named, one_name}
 
 -- ---- recorded states and problems
@@ -58,7 +57,7 @@ count_recorded tree [] [] p = refl
 count_recorded tree [] (m ∷ ms) p = absurd p
 count_recorded tree (e ∷ es) [] p = absurd p
 count_recorded tree (e ∷ es) (m ∷ ms) p =
-    let head = pair_length (IsRecorded tree) (recorded_of tree e) m.recorded p.0.recorded in
+    let head = pairwise_length (IsRecorded tree) (recorded_of tree e) m.recorded p.0.recorded in
     let rest = count_recorded tree es ms p.1 in
     let split = length-append (recorded_of tree e) (flat_map (recorded_of tree) es) in omega (arith, head, rest, split)
 
@@ -68,7 +67,7 @@ few_recorded tree is ms ps movers probs =
     let P : List ℕ → Type 0 = λ l. Pairwise (IsProblem tree) l ps in
     let all = few_elements tree is in
     let recorded = count_recorded tree (all_named tree (codes "dynamicObstacle") 0) ms (subst M (append-nil (all_named tree (codes "dynamicObstacle") 0)) movers) in
-    let count = pair_length (IsProblem tree) (Problems tree) ps (subst P (append-nil (Problems tree)) probs) in
+    let count = pairwise_length (IsProblem tree) (Problems tree) ps (subst P (append-nil (Problems tree)) probs) in
     let split = length-append (Recorded tree) (Problems tree) in
     let few = is.few in omega (arith, all, recorded, count, split, few)
 
@@ -132,8 +131,8 @@ fewer f (x ∷ xs) = fewer_by f x xs (f x) refl (fewer f xs)
 
 held_length : (tree : List Element) (e : ℕ) (l : ℕ × RawLane) → IsLane tree e l → lane_size l.1 ≤ length (Held tree e)
 held_length tree e l is =
-    let left = pair_length (IsPair tree) (Bound tree (codes "leftBound") e) l.1.left is.left in
-    let right = pair_length (IsPair tree) (Bound tree (codes "rightBound") e) l.1.right is.right in
+    let left = pairwise_length (IsPair tree) (Bound tree (codes "leftBound") e) l.1.left is.left in
+    let right = pairwise_length (IsPair tree) (Bound tree (codes "rightBound") e) l.1.right is.right in
     let after = fewer (reference_at tree) (all_named tree (codes "successor") e) in
     let before = fewer (reference_at tree) (all_named tree (codes "predecessor") e) in
     let lefts = fewer (neighbour_at tree) (all_named tree (codes "adjacentLeft") e) in

@@ -14,14 +14,11 @@ use Rattle.spot_claims.specs.Tree.{Element, first_named, text_at}
 use Rattle.spot_claims.specs.Paths.{at_path, dynamics, lanelets, problems, statics}
 use Rattle.spot_claims.specs.Radii.{Holds, HasRadii}
 use Rattle.spot_claims.specs.Scenario.{HoldsExact, HoldsPosition, IsPair, IsLane, IsRecorded, IsMover, IsFixed, IsProblem, IsScenario}
+use Rattle.spot_terms.proofs.Orders.{pos_injective, natural_antisymmetric}
+use Rattle.spot_terms.proofs.Unique.{some_one, some_injective}
+use Rattle.spot_decimal.proofs.Signs.{reads_once}
 
 -- ---- numbers and lists
-
-of_some : {A : Type 0} (a b : A) → Some a ≡ Some b → a ≡ b
-of_some a b e = cc
-
-pub both_some : {A : Type 0} (o : Option A) (a b : A) → o ≡ Some a → o ≡ Some b → a ≡ b
-both_some o a b e f = of_some a b (sym e ∙ f)
 
 -- a relation that determines its second item
 abbrev pub Determines : {A B : Type 0} → (A → B → Type 0) → Type 0
@@ -38,51 +35,35 @@ pairwise_one R one (d ∷ ds) [] ys p q = absurd p
 pairwise_one R one (d ∷ ds) (x ∷ xs) [] p q = absurd q
 pairwise_one R one (d ∷ ds) (x ∷ xs) (y ∷ ys) p q = cons_same x y xs ys (one d x y p.0 q.0) (pairwise_one R one ds xs ys p.1 q.1)
 
-antisymmetric : (a b : ℕ) → a ≤ b → b ≤ a → a ≡ b
-antisymmetric a b h k = omega arith
-
 pub greatest_one : (P : ℕ → Type 0) (r q : ℕ) → IsGreatest P r → IsGreatest P q → r ≡ q
-greatest_one P r q a b = antisymmetric r q (b.greatest r a.holds) (a.greatest q b.holds)
-
-pub least_one : (P : ℕ → Type 0) (r q : ℕ) → IsLeast P r → IsLeast P q → r ≡ q
-least_one P r q a b = antisymmetric r q (a.least q b.holds) (b.least r a.holds)
+greatest_one P r q a b = natural_antisymmetric r q (b.greatest r a.holds) (a.greatest q b.holds)
 
 pub root_one : (n r q : ℕ) → IsRootCeiling n r → IsRootCeiling n q → r ≡ q
-root_one n r q a b = antisymmetric r q (a.least q b.enough) (b.least r a.enough)
-
--- a text has one reading
-pub reading_one : (places : ℕ) (text : List ℕ) (r q : ℤ) → Reads places text r → Reads places text q → r ≡ q
-reading_one places text r q a b =
-    let same : a.fraction ≡ b.fraction = of_some _ _ (sym a.decimal ∙ b.decimal) in
-    let P : Fraction → Type 0 = λ f. IsReading places f r in
-    reads_one places b.fraction r q (subst P same a.reading) b.reading
-
-of_pos : (n m : ℕ) → pos n ≡ pos m → n ≡ m
-of_pos n m e = cc
+root_one n r q a b = natural_antisymmetric r q (a.least q b.enough) (b.least r a.enough)
 
 -- ---- the parts of a tree
 
 pub holds_one : (tree : List Element) (e : ℕ) (name : List ℕ) (places : ℕ) (r q : ℤ) → Holds tree e name places r → Holds tree e name places q → r ≡ q
 holds_one tree e name places r q a b =
-    let same : a.0 ≡ b.0 = both_some (first_named tree name e) a.0 b.0 a.1 b.1 in
+    let same : a.0 ≡ b.0 = some_one (first_named tree name e) a.0 b.0 a.1 b.1 in
     let P : ℕ → Type 0 = λ n. Reads places (text_at tree n) r in
-    reading_one places (text_at tree b.0) r q (subst P same a.2) b.2
+    reads_once places (text_at tree b.0) r q (subst P same a.2) b.2
 
 pub exact_one : (tree : List Element) (e : ℕ) (name : List ℕ) (places : ℕ) (r q : ℤ) → HoldsExact tree e name places r → HoldsExact tree e name places q → r ≡ q
 exact_one tree e name places r q a b =
-    let same : a.0 ≡ b.0 = both_some (first_named tree name e) a.0 b.0 a.1 b.1 in
+    let same : a.0 ≡ b.0 = some_one (first_named tree name e) a.0 b.0 a.1 b.1 in
     let P : ℕ → Type 0 = λ n. Holds tree n (codes "exact") places r in
     holds_one tree b.0 (codes "exact") places r q (subst P same a.2) b.2
 
 pub time_one : (tree : List Element) (e n m : ℕ) → HoldsExact tree e (codes "time") 0 (pos n) → HoldsExact tree e (codes "time") 0 (pos m) → n ≡ m
-time_one tree e n m a b = of_pos n m (exact_one tree e (codes "time") 0 (pos n) (pos m) a b)
+time_one tree e n m a b = pos_injective n m (exact_one tree e (codes "time") 0 (pos n) (pos m) a b)
 
 -- the point of a position is one element
 point_one : (tree : List Element) (e : ℕ) (x y z w : ℤ) (a : HoldsPosition tree e x y) (b : HoldsPosition tree e z w) → a.1 ≡ b.1
 point_one tree e x y z w a b =
-    let same : a.0 ≡ b.0 = both_some (first_named tree (codes "position") e) a.0 b.0 a.2 b.2 in
+    let same : a.0 ≡ b.0 = some_one (first_named tree (codes "position") e) a.0 b.0 a.2 b.2 in
     let P : ℕ → Type 0 = λ n. first_named tree (codes "point") n ≡ Some a.1 in
-    both_some (first_named tree (codes "point") b.0) a.1 b.1 (subst P same a.3) b.3
+    some_one (first_named tree (codes "point") b.0) a.1 b.1 (subst P same a.3) b.3
 
 pub position_one : (tree : List Element) (e : ℕ) (x y z w : ℤ) → HoldsPosition tree e x y → HoldsPosition tree e z w → (x ≡ z) × (y ≡ w)
 position_one tree e x y z w a b =
@@ -119,7 +100,7 @@ same_lane l m e0 e1 e2 e3 e4 =
 
 pub lane_one : (tree : List Element) → Determines (IsLane tree)
 lane_one tree e l m a b =
-    pair_same l m (of_some _ _ (sym a.id ∙ b.id))
+    pair_same l m (some_injective _ _ (sym a.id ∙ b.id))
     (same_lane l.1 m.1 (pairwise_one (IsPair tree) (pair_one tree) _ _ _ a.left b.left) (pairwise_one (IsPair tree) (pair_one tree) _ _ _ a.right b.right)
     (a.successors ∙ sym b.successors) (a.predecessors ∙ sym b.predecessors) (a.sides ∙ sym b.sides))
 
@@ -157,11 +138,11 @@ start_one tree s t x y speed angle time z w quick turned then same h k =
 
 pub mover_one : (tree : List Element) → Determines (IsMover tree)
 mover_one tree e m n a b =
-    let shapes : (m.enclosing ≡ n.enclosing) × (m.inscribed ≡ n.inscribed) = radii_one tree a.shape.0 b.shape.0 m.enclosing m.inscribed n.enclosing n.inscribed (both_some (first_named tree (codes "shape") e) _ _ a.shape.1 b.shape.1) a.shape.2 b.shape.2 in
+    let shapes : (m.enclosing ≡ n.enclosing) × (m.inscribed ≡ n.inscribed) = radii_one tree a.shape.0 b.shape.0 m.enclosing m.inscribed n.enclosing n.inscribed (some_one (first_named tree (codes "shape") e) _ _ a.shape.1 b.shape.1) a.shape.2 b.shape.2 in
     let from : Starts tree a.start.0 m.x m.y m.speed m.angle m.time = record { position = a.start.2; speed_is = a.start.3; angle_is = a.start.4; time_is = a.start.5 } in
     let other : Starts tree b.start.0 n.x n.y n.speed n.angle n.time = record { position = b.start.2; speed_is = b.start.3; angle_is = b.start.4; time_is = b.start.5 } in
-    let starts : SameStart m.x m.y m.speed m.angle m.time n.x n.y n.speed n.angle n.time = start_one tree a.start.0 b.start.0 m.x m.y m.speed m.angle m.time n.x n.y n.speed n.angle n.time (both_some (first_named tree (codes "initialState") e) _ _ a.start.1 b.start.1) from other in
-    same_mover m n (of_some _ _ (sym a.id ∙ b.id)) (a.place ∙ sym b.place) (a.kind ∙ sym b.kind) shapes.0 shapes.1 starts.time_same starts.x_same starts.y_same starts.speed_same starts.angle_same
+    let starts : SameStart m.x m.y m.speed m.angle m.time n.x n.y n.speed n.angle n.time = start_one tree a.start.0 b.start.0 m.x m.y m.speed m.angle m.time n.x n.y n.speed n.angle n.time (some_one (first_named tree (codes "initialState") e) _ _ a.start.1 b.start.1) from other in
+    same_mover m n (some_injective _ _ (sym a.id ∙ b.id)) (a.place ∙ sym b.place) (a.kind ∙ sym b.kind) shapes.0 shapes.1 starts.time_same starts.x_same starts.y_same starts.speed_same starts.angle_same
     (pairwise_one (IsRecorded tree) (recorded_one tree) _ _ _ a.recorded b.recorded)
 
 same_fixed : (f g : Fixed) → f.id ≡ g.id → f.place ≡ g.place → f.enclosing ≡ g.enclosing → f.inscribed ≡ g.inscribed → f.x ≡ g.x → f.y ≡ g.y → f ≡ g
@@ -170,11 +151,11 @@ same_fixed f g e0 e1 e2 e3 e4 e5 =
 
 pub fixed_one : (tree : List Element) → Determines (IsFixed tree)
 fixed_one tree e f g a b =
-    let shapes : (f.enclosing ≡ g.enclosing) × (f.inscribed ≡ g.inscribed) = radii_one tree a.shape.0 b.shape.0 f.enclosing f.inscribed g.enclosing g.inscribed (both_some (first_named tree (codes "shape") e) _ _ a.shape.1 b.shape.1) a.shape.2 b.shape.2 in
-    let same : a.start.0 ≡ b.start.0 = both_some (first_named tree (codes "initialState") e) _ _ a.start.1 b.start.1 in
+    let shapes : (f.enclosing ≡ g.enclosing) × (f.inscribed ≡ g.inscribed) = radii_one tree a.shape.0 b.shape.0 f.enclosing f.inscribed g.enclosing g.inscribed (some_one (first_named tree (codes "shape") e) _ _ a.shape.1 b.shape.1) a.shape.2 b.shape.2 in
+    let same : a.start.0 ≡ b.start.0 = some_one (first_named tree (codes "initialState") e) _ _ a.start.1 b.start.1 in
     let P : ℕ → Type 0 = λ s. HoldsPosition tree s f.x f.y in
     let places : (f.x ≡ g.x) × (f.y ≡ g.y) = position_one tree b.start.0 f.x f.y g.x g.y (subst P same a.start.2) b.start.2 in
-    same_fixed f g (of_some _ _ (sym a.id ∙ b.id)) (a.place ∙ sym b.place) shapes.0 shapes.1 places.0 places.1
+    same_fixed f g (some_injective _ _ (sym a.id ∙ b.id)) (a.place ∙ sym b.place) shapes.0 shapes.1 places.0 places.1
 
 same_problem : (p q : Problem) → p.id ≡ q.id → p.place ≡ q.place → p.time ≡ q.time → p.x ≡ q.x → p.y ≡ q.y → p.speed ≡ q.speed → p.angle ≡ q.angle → p ≡ q
 same_problem p q e0 e1 e2 e3 e4 e5 e6 =
@@ -184,18 +165,18 @@ pub problem_one : (tree : List Element) → Determines (IsProblem tree)
 problem_one tree e p q a b =
     let from : Starts tree a.start.0 p.x p.y p.speed p.angle p.time = record { position = a.start.2; speed_is = a.start.3; angle_is = a.start.4; time_is = a.start.5 } in
     let other : Starts tree b.start.0 q.x q.y q.speed q.angle q.time = record { position = b.start.2; speed_is = b.start.3; angle_is = b.start.4; time_is = b.start.5 } in
-    let starts : SameStart p.x p.y p.speed p.angle p.time q.x q.y q.speed q.angle q.time = start_one tree a.start.0 b.start.0 p.x p.y p.speed p.angle p.time q.x q.y q.speed q.angle q.time (both_some (first_named tree (codes "initialState") e) _ _ a.start.1 b.start.1) from other in
-    same_problem p q (of_some _ _ (sym a.id ∙ b.id)) (a.place ∙ sym b.place) starts.time_same starts.x_same starts.y_same starts.speed_same starts.angle_same
+    let starts : SameStart p.x p.y p.speed p.angle p.time q.x q.y q.speed q.angle q.time = start_one tree a.start.0 b.start.0 p.x p.y p.speed p.angle p.time q.x q.y q.speed q.angle q.time (some_one (first_named tree (codes "initialState") e) _ _ a.start.1 b.start.1) from other in
+    same_problem p q (some_injective _ _ (sym a.id ∙ b.id)) (a.place ∙ sym b.place) starts.time_same starts.x_same starts.y_same starts.speed_same starts.angle_same
 
 -- ---- the scenario
 
 step_same : (n m : ℕ) → pos (1000 * n) ≡ pos (1000 * m) → n ≡ m
-step_same n m e = let same : 1000 * n ≡ 1000 * m = of_pos (1000 * n) (1000 * m) e in omega arith
+step_same n m e = let same : 1000 * n ≡ 1000 * m = pos_injective (1000 * n) (1000 * m) e in omega arith
 
 pub scenario_is_one : (tree : List Element) (s t : Scenario) → IsScenario tree s → IsScenario tree t
     → (s.step ≡ t.step) × (s.movers ≡ t.movers) × (s.fixed ≡ t.fixed) × (s.problems ≡ t.problems) × (s.lanelets.entries ≡ t.lanelets.entries)
 scenario_is_one tree s t a b = (
-  step_same s.step t.step (reading_one 6 _ _ _ a.step b.step),
+  step_same s.step t.step (reads_once 6 _ _ _ a.step b.step),
   pairwise_one (IsMover tree) (mover_one tree) (at_path tree dynamics) s.movers t.movers a.movers b.movers,
   pairwise_one (IsFixed tree) (fixed_one tree) (at_path tree statics) s.fixed t.fixed a.fixed b.fixed,
   pairwise_one (IsProblem tree) (problem_one tree) (at_path tree problems) s.problems t.problems a.problems b.problems,

@@ -29,13 +29,10 @@ use Rattle.spot_claims.proofs.OneReport.{area_pieces, replay_pieces}
 use Rattle.spot_terms.proofs.OneStart.{start_one, speed_one}
 use Rattle.spot_terms.proofs.OneLabel.{polygons_one}
 use Rattle.spot_claims.proofs.ExactStart.{exact_start}
+use Rattle.spot_terms.proofs.Orders.{zero_of_true}
+use Rattle.spot_terms.proofs.ItemPlaces.{got_included}
 
 -- ---- lists
-
-pub at_included : {X : Type 0} (xs : List X) (p : ℕ) (x : X) → slice_get xs p ≡ Some x → Includes xs x
-at_included [] p x e = cc
-at_included (y ∷ xs) zero x e = inl cc
-at_included (y ∷ xs) (suc p) x e = inr (at_included xs p x e)
 
 passes_by : {X : Type 0} (p : X → Bool) (y : X) (ys : List X) (x : X) (b : Bool) → (Includes (filter p ys) x → Includes ys x × (p x ≡ true)) → p y ≡ b → Includes (cond b (y ∷ filter p ys) (filter p ys)) x → Includes (y ∷ ys) x × (p x ≡ true)
 passes_by p y ys x true rest e (inl s) = (inl s, ap p s ∙ e)
@@ -53,15 +50,6 @@ from_second R [] (z ∷ ys) y p i = absurd p
 from_second R (x ∷ xs) [] y p i = absurd i
 from_second R (x ∷ xs) (z ∷ ys) y p (inl e) = (x, inl refl, subst (R x) (sym e) p.0)
 from_second R (x ∷ xs) (z ∷ ys) y p (inr i) = let (w, j, r) = from_second R xs ys y p.1 i in (w, inr j, r)
-
-from_first : {X Y : Type 0} (R : X → Y → Type 0) (xs : List X) (ys : List Y) (x : X) → Pairwise R xs ys → Includes xs x → (y : Y) × Includes ys y × R x y
-from_first R [] ys x p i = absurd i
-from_first R (z ∷ xs) [] x p i = absurd p
-from_first R (z ∷ xs) (y ∷ ys) x p (inl e) = (y, inl refl, subst (λ w. R w y) (sym e) p.0)
-from_first R (z ∷ xs) (y ∷ ys) x p (inr i) = let (w, j, r) = from_first R xs ys x p.1 i in (w, inr j, r)
-
-zero_time : (n : ℕ) → (n == 0) ≡ true → n ≡ 0
-zero_time n h = grind (arith, nat_tests)
 
 at_most : (a b : ℕ) → nat_le a b ≡ true → a ≤ b
 at_most a b h = grind (arith, nat_tests)
@@ -202,11 +190,11 @@ module _ (s : Scenario) (c : Command) (traffic lines : List Line) (tr : IsTraffi
   unfolding Found occ_of
   of_mover m o j latest t q piece i h le holds k inside =
       let (among, at_start) = passes (λ (x : Mover). x.time == 0) s.movers m i in
-      let (v, a, shown, listed) = found s c s.movers tr.obstacles m tr.obstacles_are among (zero_time m.time at_start) in
+      let (v, a, shown, listed) = found s c s.movers tr.obstacles m tr.obstacles_are among (zero_of_true m.time at_start) in
       inr (record {
         mover = m;
         listed = among;
-        starts = zero_time m.time at_start;
+        starts = zero_of_true m.time at_start;
         line = v;
         line_is = a.line_is;
         printed = mover_printed v shown;
@@ -239,7 +227,7 @@ holds_tick k n (suc j) some le =
 pub struck_is_entered : StruckIsEntered
 struck_is_entered s c course traffic lines pieces i states area some le ticks tr all are (j, p, state, at, got, less, (piece, found, inside)) =
     let (occupants, known, same) = area_pieces s c pieces area are in
-    let listed : Includes (pieces j) piece = at_included (pieces j) p piece found in
+    let listed : Includes (pieces j) piece = got_included (pieces j) p piece found in
     let within : Includes (predicted_pieces s occupants j) piece = subst (λ (z : List Piece). Includes z piece) (same j (omega (arith, at, le))) listed in record {
       tick = j * s.step;
       state = state;
@@ -253,7 +241,7 @@ struck_is_entered s c course traffic lines pieces i states area some le ticks tr
 
 pub struck_is_collided : StruckIsCollided
 struck_is_collided s c course pieces i states replay le ticks are (j, p, state, at, got, less, (piece, found, inside)) =
-    let listed : Includes (pieces j) piece = at_included (pieces j) p piece found in
+    let listed : Includes (pieces j) piece = got_included (pieces j) p piece found in
     let within : Includes (recorded_pieces s (ego_radius c) j) piece = subst (λ (z : List Piece). Includes z piece) (replay_pieces s c pieces replay are j (omega (arith, at, le))) listed in
     let (d, k, e) = in_map (λ (d : Disc). disc d.p d.r) (discs s (ego_radius c) j) piece within in
     record {

@@ -14,6 +14,7 @@ use Rattle.spot_claims.specs.Outputs.{IsWritten}
 use Rattle.spot_claims.specs.Runs.{Run}
 use Rattle.spot_claims.specs.Stages.{IsRead}
 use Rattle.spot_cli.specs.Endings.{EndsAs}
+use Rattle.spot_terms.proofs.Unique.{some_injective}
 
 -- ---- statuses
 
@@ -89,9 +90,6 @@ kept_some None last xs kept e = cc
 kept_some (Some ys) None xs kept e = absurd kept
 kept_some (Some ys) (Some zs) xs kept e = cc
 
-of_some : (xs ys : List ℕ) → Some xs ≡ Some ys → xs ≡ ys
-of_some xs ys e = cc
-
 -- ---- the run
 
 -- what sending on makes of a run: what the sink told stays, and a whole output may end by a write fault
@@ -153,7 +151,7 @@ module _ (run : Run) (after : Option (List ℕ)) (faults : ℕ) (status : Status
   headline_still output h = λ s c text lines r fits text_is.
       let done : IsDone run.status = was_done run.status status sent.ends r.done in
       let (new, after_is, _) = output c r.old r.stands (λ _. (r.bytes, r.told_is)) r.before_is (done_written run.status done) in
-      let same : new ≡ r.old ++ text = of_some new (r.old ++ text) (sym (kept_some run.after after new sent.kept after_is) ∙ r.after_is) in
+      let same : new ≡ r.old ++ text = some_injective new (r.old ++ text) (sym (kept_some run.after after new sent.kept after_is) ∙ r.after_is) in
       h s c text lines (record {
         stands = r.stands;
         bytes = r.bytes;

@@ -52,7 +52,7 @@ reads text minus whole part shrinks size places r k h = record {
 }
 
 -- a text has one reading
-reads_once : (places : ℕ) (text : List ℕ) (r q : ℤ) → Reads places text r → Reads places text q → r ≡ q
+pub reads_once : (places : ℕ) (text : List ℕ) (r q : ℤ) → Reads places text r → Reads places text q → r ≡ q
 reads_once places text r q a b =
     let s : Some a.fraction ≡ Some b.fraction = sym a.decimal ∙ b.decimal in
     let e : a.fraction ≡ b.fraction = cc in

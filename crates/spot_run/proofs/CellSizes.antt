@@ -11,12 +11,13 @@ use Rattle.spot_terms.specs.Ranges.{IsPairInRange, IsLaneInRange}
 use Rattle.spot_terms.specs.Reach.{disc_number}
 use Rattle.spot_terms.specs.Whole.{SizeAtMost, quotient_floor, root_floor}
 use Rattle.spot_terms.specs.declared.plain.Pt.{Pt}
-use Rattle.spot_terms.proofs.ListLemmas.{includes_either, all_included, all_of}
+use Rattle.spot_terms.proofs.ListLemmas.{includes_either, all_included, all_of, all_append}
 use Rattle.spot_terms.proofs.Members.{in_map, in_flat_map, all_in_map}
 use Rattle.convex_poly.specs.Polygons.{IsPosition}
 use Rattle.convex_poly.proofs.CornerCounts.{few_points}
 use Rattle.round_out.proofs.Bodies.{number_small}
 use Rattle.lanelets.proofs.Cuts.{difference_small, part_small}
+use Rattle.spot_terms.proofs.ItemPlaces.{got_included}
 
 -- both coordinates are at most n in size
 pub record IsWithin (n : ℕ) (p : Pt) : Type 0 where
@@ -27,10 +28,6 @@ pub record IsWithin (n : ℕ) (p : Pt) : Type 0 where
 
 AreClose : NetCell → Type 0
 AreClose c = AllByRecursion (IsWithin 30_000_000_000_000) (corners_of c)
-
-pub all_append : {X : Type 0} (P : X → Type 0) (xs ys : List X) → AllByRecursion P xs → AllByRecursion P ys → AllByRecursion P (xs ++ ys)
-all_append P [] ys a b = b
-all_append P (x ∷ xs) ys a b = (a.0, all_append P xs ys a.1 b)
 
 below : (n t : ℕ) → Includes (numbers_below n) t → t < n
 unfolding numbers_below
@@ -131,19 +128,9 @@ cells_close : (lanes : List Lane) → AreInRange lanes → AllByRecursion AreClo
 unfolding cells
 cells_close lanes h = all_append AreClose (lane_cells 0 lanes) (bridges_from lanes 0 lanes) (lanes_close 0 lanes h) (from_close lanes 0 lanes h h)
 
-included : {X : Type 0} (xs : List X) (k : ℕ) (x : X) → slice_get xs k ≡ Some x → Includes xs x
-included [] k x e = cc
-included (y ∷ xs) zero x e = inl cc
-included (y ∷ xs) (suc k) x e = inr (included xs k x e)
-
-pub item_below : {X : Type 0} (xs : List X) (k : ℕ) (x : X) → slice_get xs k ≡ Some x → k < length xs
-item_below [] k x e = cc
-item_below (y ∷ xs) zero x e = omega arith
-item_below (y ∷ xs) (suc k) x e = let h = item_below xs k x e in omega (arith, h)
-
 cell_close : (lanes : List Lane) (c : ℕ) (n : NetCell) → AreInRange lanes → slice_get (cells lanes) c ≡ Some n → AllByRecursion (IsWithin 30_000_000_000_000) (corners_of n)
 unfolding AreClose
-cell_close lanes c n h e = all_included AreClose (cells lanes) n (cells_close lanes h) (included (cells lanes) c n e)
+cell_close lanes c n h e = all_included AreClose (cells lanes) n (cells_close lanes h) (got_included (cells lanes) c n e)
 
 -- ---- bodies
 

@@ -31,9 +31,7 @@ use Rattle.participants.specs.Predictions.{IsParticipant, HoldsMotions, IsFixedO
 use Rattle.spot_run.specs.Writes.{IsPredicted}
 use Rattle.spot_run.specs.Lines.{line_of, obstacle_lines, octagon_line, octagon_lines, occupancy_lines, polygon_line, lane_lines, traffic_lines, prediction_lines}
 use Rattle.spot_run.proofs.Alone.{mover_alone, octagon_alone, fixed_alone}
-
-at_zero : (n : ℕ) → n ≡ 0 → (n == 0) ≡ true
-at_zero n h = grind (arith, nat_tests)
+use Rattle.spot_terms.proofs.Orders.{zero_true}
 
 -- ---- where lines stand
 
@@ -143,7 +141,7 @@ prediction_covers s c o range ids predicted =
     let lanes = s.lanelets.entries in
     let is = predicted.is in record {
       movers = λ m i zero.
-          let (p, j, one) = partner (IsParticipant lanes s.step c.steps) (starting s.movers) o.participants m is.participants (includes_filter (λ (x : Mover). x.time == 0) s.movers m (at_zero m.time zero) i) in record {
+          let (p, j, one) = partner (IsParticipant lanes s.step c.steps) (starting s.movers) o.participants m is.participants (includes_filter (λ (x : Mover). x.time == 0) s.movers m (zero_true m.time zero) i) in record {
             line = line_of p;
             printed = obstacle_stands s.step c.steps s.movers o _ (mover_listed lanes s.step c.steps s.movers o.participants p is.participants j);
             alone = λ other listed same. mover_alone s c.steps o is ids p other j listed same;

@@ -19,9 +19,8 @@ use Rattle.spot_terms.specs.declared.scenario.Mover.{Mover}
 use Rattle.spot_terms.specs.declared.scenario.Fixed.{Fixed}
 use Rattle.spot_terms.specs.declared.scenario.Scenario.{Scenario}
 use Rattle.spot_terms.proofs.Members.{all_in_map}
-use Rattle.spot_terms.proofs.ListLemmas.{includes_map}
+use Rattle.spot_terms.proofs.ListLemmas.{includes_map, all_append}
 use Rattle.spot_terms.proofs.ListLemmas.{below-from}
-use Rattle.scenario.proofs.Unique.{least_one}
 use Rattle.convex_poly.specs.declared.oct_numbers.OctNumbers.{OctNumbers}
 use Rattle.convex_poly.specs.Polygons.{IsPosition}
 use Rattle.round_out.proofs.Discs.{disc_number_le}
@@ -34,7 +33,9 @@ use Rattle.participants.specs.declared.participant.Participant.{Participant}
 use Rattle.participants.specs.Predictions.{IsParticipant, IsFixedOctagon, Occupancies}
 use Rattle.spot_run.specs.Writes.{IsPredicted}
 use Rattle.spot_run.specs.Lines.{line_of, obstacle_lines, octagon_line, polygon_line, lane_lines, octagon_lines, occupancy_lines, traffic_lines, prediction_lines}
-use Rattle.spot_run.proofs.CellSizes.{all_append, item_below, IsSmall, body_small}
+use Rattle.spot_run.proofs.CellSizes.{IsSmall, body_small}
+use Rattle.spot_terms.proofs.Unique.{least_one}
+use Rattle.spot_terms.proofs.ItemPlaces.{got_below}
 
 -- ---- lists
 
@@ -162,7 +163,7 @@ fits_polygons lanes id s speed k steps xs buildable network h start few are = al
     let j = includes_map polygon_of xs x i in
     let is = are.each (polygon_of x) j in
     let (n, there, low) = are.cells_are.each x.cell (includes_map (λ (y : LanePolygon). y.cell) (map polygon_of xs) (polygon_of x) j) in
-    let cell : x.cell < length (cells lanes) = item_below (cells lanes) x.cell is.net_cell is.cell_is in
+    let cell : x.cell < length (cells lanes) = got_below (cells lanes) x.cell is.net_cell is.cell_is in
     let first : x.first < steps = first_below lanes s speed k steps x.cell x.first n is.first_is there low in
     let most = network.few in
     let radius = start.r in

@@ -10,15 +10,15 @@ use Rattle.spot_terms.specs.declared.status.Which.{Which}
 use Rattle.spot_terms.specs.declared.status.Which.TheVariants.{TooManyCells, LaneTooWide, TooManyLanePolygons}
 use Rattle.spot_terms.specs.declared.status.Status.{Status}
 use Rattle.spot_terms.specs.declared.status.Status.TheVariants.{Open, Limit, WriteFault, Memory}
-use Rattle.scenario.proofs.Unique.{both_some}
 use Rattle.spot_terms.proofs.Orders.{below_or_at_least}
 use Rattle.spot_claims.specs.Answers.{ExactlyWhere, IsOutside, HasManyCells, HasWideLane, HasManyPairs, ExactlyFor, TooManyCellsExactly, LaneTooWideExactly, TooManyLanePolygonsExactly}
 use Rattle.spot_claims.specs.Runs.{Run}
 use Rattle.spot_claims.specs.Stages.{IsTold, IsAccepting, most_pairs}
 use Rattle.participants.proofs.OneNumber.{pairs_are_one}
 use Rattle.spot_run.specs.Writes.{IsPastLimit, WritesPrediction}
-use Rattle.spot_run.proofs.CellSizes.{item_below}
 use Rattle.spot_run.proofs.Runs.{IsForPrediction, HasLoaded, AreAlike, alike, reads_input, predicts, is_built, input_of, is_input, passes}
+use Rattle.spot_terms.proofs.Unique.{some_one}
+use Rattle.spot_terms.proofs.ItemPlaces.{got_below}
 
 -- ---- one lanelet is the first that is too wide
 
@@ -33,11 +33,11 @@ first_is_one lanes a b (e, l, at, is, wide, narrow) (f, m, there, also, broad, t
     let low : f ≤ e = before_first lanes e f l thin at wide in
     let high : e ≤ f = before_first lanes f e m narrow there broad in
     let same : e ≡ f = omega (arith, low, high) in
-    let one : l ≡ m = both_some (slice_get lanes f) l m (subst (λ (i : ℕ). slice_get lanes i ≡ Some l) same at) there in
+    let one : l ≡ m = some_one (slice_get lanes f) l m (subst (λ (i : ℕ). slice_get lanes i ≡ Some l) same at) there in
     is ∙ ap (λ (x : Lane). x.0) one ∙ sym also
 
 none_wide : (lanes : List Lane) (id : ℕ) → HasNetwork lanes → IsFirstWide lanes (Some id) → ⊥
-none_wide lanes id network (e, l, at, is, wide, narrow) = network.narrow e l (item_below lanes e l at) at wide
+none_wide lanes id network (e, l, at, is, wide, narrow) = network.narrow e l (got_below lanes e l at) at wide
 
 too_many : (n m k : ℕ) → n ≤ k → m ≡ n → k < m → ⊥
 too_many n m k a b c = omega (arith, a, b, c)

@@ -9,19 +9,14 @@ use Rattle.spot_terms.specs.declared.scenario.Mover.{Mover}
 use Rattle.participants.specs.declared.participant.Participant.{Participant}
 use Rattle.spot_run.specs.Lines.{line_of, obstacle_lines}
 use Rattle.spot_run.proofs.Writing.{report_text-cons, report_text-nil, item}
-
-at_zero : (n : ℕ) → n ≡ 0 → (n == 0) ≡ true
-at_zero n h = grind (arith, nat_tests)
-
-not_at_zero : (n : ℕ) → n ≢ 0 → (n == 0) ≡ false
-not_at_zero n h = grind (arith, nat_tests)
+use Rattle.spot_terms.proofs.Orders.{zero_true, not_zero_false}
 
 mover_next : (m : Mover) (ms : List Mover) (p : Participant) (ps : List Participant) → m.time ≡ 0 → report_text (obstacle_lines (m ∷ ms) (p ∷ ps)) ≡ line_text (mover_line (line_of p)) ++ report_text (obstacle_lines ms ps)
-mover_next m ms p ps h = let t : (m.time == 0) ≡ true = at_zero m.time h in rw t (report_text-cons (mover_line (line_of p)) (obstacle_lines ms ps))
+mover_next m ms p ps h = let t : (m.time == 0) ≡ true = zero_true m.time h in rw t (report_text-cons (mover_line (line_of p)) (obstacle_lines ms ps))
 
 late_next : (m : Mover) (ms : List Mover) (ps : List Participant) → m.time ≢ 0 → report_text (obstacle_lines (m ∷ ms) ps) ≡ line_text (late_line m.id m.time) ++ report_text (obstacle_lines ms ps)
 late_next m ms [] h = report_text-cons (late_line m.id m.time) (obstacle_lines ms [])
-late_next m ms (p ∷ ps) h = let t : (m.time == 0) ≡ false = not_at_zero m.time h in rw t (report_text-cons (late_line m.id m.time) (obstacle_lines ms (p ∷ ps)))
+late_next m ms (p ∷ ps) h = let t : (m.time == 0) ≡ false = not_zero_false m.time h in rw t (report_text-cons (late_line m.id m.time) (obstacle_lines ms (p ∷ ps)))
 
 -- an obstacle that starts at time 0, and its participant
 pub next_mover : (ms : List Mover) (ps : List Participant) (i j : ℕ) (m : Mover) (p : Participant) (l : MoverLine) → i < length ms → m ≡ get_or ms i m → m.time ≡ 0 → j < length ps → p ≡ get_or ps j p → l ≡ line_of p
@@ -38,10 +33,10 @@ none_left ms ps i h = rw (drop_all i ms h) report_text-nil
 
 -- how many start
 starts_next : (m : Mover) (ms : List Mover) → m.time ≡ 0 → length (starting (m ∷ ms)) ≡ suc (length (starting ms))
-starts_next m ms z = let t : (m.time == 0) ≡ true = at_zero m.time z in rw t refl
+starts_next m ms z = let t : (m.time == 0) ≡ true = zero_true m.time z in rw t refl
 
 late_starts : (m : Mover) (ms : List Mover) → m.time ≢ 0 → length (starting (m ∷ ms)) ≡ length (starting ms)
-late_starts m ms z = let t : (m.time == 0) ≡ false = not_at_zero m.time z in rw t refl
+late_starts m ms z = let t : (m.time == 0) ≡ false = not_zero_false m.time z in rw t refl
 
 pub starting_mover : (ms : List Mover) (i : ℕ) (m : Mover) → i < length ms → m ≡ get_or ms i m → m.time ≡ 0 → length (starting (drop i ms)) ≡ suc (length (starting (drop (i + 1) ms)))
 starting_mover ms i m h e z = rw (item ms i m h e) (starts_next m (drop (i + 1) ms) z)

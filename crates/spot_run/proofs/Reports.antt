@@ -22,12 +22,7 @@ use Rattle.participants.specs.declared.participant.Participant.{Participant}
 use Rattle.participants.specs.Predictions.{IsParticipant, IsFixedOctagon, Occupancies, IsPrediction}
 use Rattle.spot_run.specs.Lines.{line_of, obstacle_lines, octagon_line, polygon_line, lane_lines, octagon_lines, occupancy_lines, traffic_lines, prediction_lines}
 use Rattle.spot_run.proofs.Covers.{Partners, is_mover_line}
-
-is_zero : (n : ℕ) → (n == 0) ≡ true → n ≡ 0
-is_zero n h = grind (arith, nat_tests)
-
-not_zero : (n : ℕ) → (n == 0) ≡ false → 0 < n
-not_zero n h = grind (arith, nat_tests)
+use Rattle.spot_terms.proofs.Orders.{zero_of_true, positive_of_false}
 
 -- ---- the obstacles
 
@@ -41,14 +36,14 @@ exact_mover s k steps m p range is = record {
 late_alone : (s : Scenario) (k steps : ℕ) (m : Mover) (ms : List Mover) (t : Bool) → (m.time == 0) ≡ t → (Partners s.lanelets.entries k steps ms [] → Pairwise (IsObstacleLine s) ms (obstacle_lines ms []))
     → Pairwise (IsParticipant s.lanelets.entries k steps) (cond t (m ∷ starting ms) (starting ms)) [] → Pairwise (IsObstacleLine s) (m ∷ ms) (late_line m.id m.time ∷ obstacle_lines ms [])
 late_alone s k steps m ms true e rest pairs = absurd pairs
-late_alone s k steps m ms false e rest pairs = (inr (not_zero m.time e, refl), rest pairs)
+late_alone s k steps m ms false e rest pairs = (inr (positive_of_false m.time e, refl), rest pairs)
 
 mover_or_late : (s : Scenario) (k steps : ℕ) (m : Mover) (ms : List Mover) (p : Participant) (ps : List Participant) (t : Bool) → IsMoverInRange m → (m.time == 0) ≡ t
     → (Partners s.lanelets.entries k steps ms ps → Pairwise (IsObstacleLine s) ms (obstacle_lines ms ps)) → (Partners s.lanelets.entries k steps ms (p ∷ ps) → Pairwise (IsObstacleLine s) ms (obstacle_lines ms (p ∷ ps)))
     → Pairwise (IsParticipant s.lanelets.entries k steps) (cond t (m ∷ starting ms) (starting ms)) (p ∷ ps)
     → Pairwise (IsObstacleLine s) (m ∷ ms) (cond t (mover_line (line_of p) ∷ obstacle_lines ms ps) (late_line m.id m.time ∷ obstacle_lines ms (p ∷ ps)))
-mover_or_late s k steps m ms p ps true range e rest same pairs = (inl (is_zero m.time e, (line_of p, refl, exact_mover s k steps m p range pairs.0)), rest pairs.1)
-mover_or_late s k steps m ms p ps false range e rest same pairs = (inr (not_zero m.time e, refl), same pairs)
+mover_or_late s k steps m ms p ps true range e rest same pairs = (inl (zero_of_true m.time e, (line_of p, refl, exact_mover s k steps m p range pairs.0)), rest pairs.1)
+mover_or_late s k steps m ms p ps false range e rest same pairs = (inr (positive_of_false m.time e, refl), same pairs)
 
 obstacles_are : (s : Scenario) (k steps : ℕ) (ms : List Mover) (ps : List Participant) → AllByRecursion IsMoverInRange ms → Partners s.lanelets.entries k steps ms ps → Pairwise (IsObstacleLine s) ms (obstacle_lines ms ps)
 obstacles_are s k steps [] ps range pairs = tt

@@ -41,6 +41,7 @@ use Rattle.spot_run.specs.Writes.{report_of, IsPredicted, TakesPrediction, Write
 use Rattle.spot_run.proofs.Covers.{prediction_covers}
 use Rattle.spot_run.proofs.Reports.{predict_report}
 use Rattle.spot_run.proofs.Fits.{fits_report}
+use Rattle.spot_terms.proofs.Unique.{some_injective}
 
 -- ---- words that are for a prediction
 
@@ -105,16 +106,13 @@ appended None after old added e h = cc
 appended (Some xs) None old added e h = absurd h
 appended (Some xs) (Some ys) old added e h = let same : xs ≡ old = cc in (ys, refl, h ∙ ap (λ (x : List ℕ). x ++ added) same)
 
-of_some : (a b : List ℕ) → Some a ≡ Some b → a ≡ b
-of_some a b e = cc
-
 pub same_bytes : (o : Option (List ℕ)) (a b : List ℕ) → o ≡ Some a → o ≡ Some b → a ≡ b
-same_bytes o a b e f = of_some a b (sym e ∙ f)
+same_bytes o a b e f = some_injective a b (sym e ∙ f)
 
 same_text : (before after : Option (List ℕ)) (old text added : List ℕ) → before ≡ Some old → after ≡ Some (old ++ text) → Appends before after added → text ≡ added
 same_text before after old text added before_is after_is h =
     let (new, is, grown) = appended before after old added before_is h in
-    append_cancel_left old text added (of_some (old ++ text) new (sym after_is ∙ is) ∙ grown)
+    append_cancel_left old text added (some_injective (old ++ text) new (sym after_is ∙ is) ∙ grown)
 
 -- ---- bytes have one scenario, but for how its lanelets are kept
 

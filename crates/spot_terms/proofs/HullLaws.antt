@@ -9,6 +9,7 @@ use Rattle.spot_terms.specs.HullLaws.{HullLaws}
 use Rattle.spot_terms.specs.Lists.{Includes}
 use Rattle.spot_terms.proofs.ListLemmas.{all_included}
 use Rattle.spot_terms.proofs.Hulls.{hull_included, hull_subset, hull_flat, hull_mean, hull_between, hull_at_most, support_bounds, support_bounds_whole, hull_to_points, hull_to_corners, support_of_corners}
+use Rattle.spot_terms.proofs.Orders.{at_most_trans, equal_at_most}
 
 -- an item that no other item of the list passes
 record Furthest (vs : List Pt) (nx ny : ℤ) : Type 0 where
@@ -16,14 +17,8 @@ record Furthest (vs : List Pt) (nx ny : ℤ) : Type 0 where
   here : Includes vs point
   bound : (c : Pt) → Includes vs c → dot nx ny c ≤ℤ dot nx ny point
 
-le_le : (z w u : ℤ) → z ≤ℤ w → w ≤ℤ u → z ≤ℤ u
-le_le z w u h k = omega (arith, ints)
-
-same_le : (z w : ℤ) → z ≡ w → z ≤ℤ w
-same_le z w e = omega (arith, ints)
-
 same_point : (nx ny : ℤ) (c p : Pt) → c ≡ p → dot nx ny c ≤ℤ dot nx ny p
-same_point nx ny c p e = subst (λ (z : Pt). dot nx ny c ≤ℤ dot nx ny z) e (same_le _ _ refl)
+same_point nx ny c p e = subst (λ (z : Pt). dot nx ny c ≤ℤ dot nx ny z) e (equal_at_most _ _ refl)
 
 -- a list with an item has one
 furthest : (nx ny : ℤ) (v : Pt) (vs : List Pt) → Furthest (v ∷ vs) nx ny
@@ -31,8 +26,8 @@ furthest nx ny v [] = record { point = v; here = inl refl; bound = λ c i. elim 
 furthest nx ny v (w ∷ ws) =
     let r = furthest nx ny w ws in
     by_lt_z (dot nx ny v) (dot nx ny r.point)
-    (λ less. record { point = r.point; here = inr r.here; bound = λ c i. elim i [ inl e ↦ le_le (dot nx ny c) (dot nx ny v) (dot nx ny r.point) (same_point nx ny c v e) (omega (arith, ints, less)) | inr j ↦ r.bound c j ] })
-    (λ rest. record { point = v; here = inl refl; bound = λ c i. elim i [ inl e ↦ same_point nx ny c v e | inr j ↦ le_le (dot nx ny c) (dot nx ny r.point) (dot nx ny v) (r.bound c j) rest ] })
+    (λ less. record { point = r.point; here = inr r.here; bound = λ c i. elim i [ inl e ↦ at_most_trans (dot nx ny c) (dot nx ny v) (dot nx ny r.point) (same_point nx ny c v e) (omega (arith, ints, less)) | inr j ↦ r.bound c j ] })
+    (λ rest. record { point = v; here = inl refl; bound = λ c i. elim i [ inl e ↦ same_point nx ny c v e | inr j ↦ at_most_trans (dot nx ny c) (dot nx ny r.point) (dot nx ny v) (r.bound c j) rest ] })
 
 -- a support of points is the support of the corners of their hull
 pub support_of_points : (points corners : List Pt) (nx ny h : ℤ) → IsHullOf points corners → IsSupport points nx ny h → IsSupport corners nx ny h

@@ -12,7 +12,8 @@ use Rattle.spot_terms.specs.Lists.{Includes}
 use Rattle.spot_terms.proofs.ListLemmas.{all_included, all_later, all_of, includes_itself}
 use Rattle.spot_terms.proofs.Products.{*ℤ_assoc, times_swap}
 use Rattle.spot_terms.proofs.Ring.{ring, var, num, ◌⊕◌, ◌⊖◌, ◌⊗◌}
-use Rattle.spot_terms.proofs.Mixes.{total, Mix, mix_none, mix_add, mix_scale, mix_to, mix_included, positive_times, Affine, mix_not_below, not_below_part, not_below_times}
+use Rattle.spot_terms.proofs.Mixes.{total, Mix, mix_none, mix_add, mix_scale, mix_to, mix_included, positive_times, Affine, mix_not_below, not_below_part}
+use Rattle.spot_terms.proofs.Orders.{product_not_negative}
 
 -- ---- weights of any length, and one weight for each corner
 
@@ -215,7 +216,7 @@ hull_at_most a b c vs q all h =
     let low : pos 0 ≤ℤ ((((pos 0 -ℤ a) *ℤ m.X) +ℤ ((pos 0 -ℤ b) *ℤ m.Y)) +ℤ (c *ℤ pos m.n)) =
     mix_not_below (λ u. c -ℤ dot a b u) (record { at_x = pos 0 -ℤ a; at_y = pos 0 -ℤ b; rest = c; is = λ p. ring (a ∷ b ∷ c ∷ p.x ∷ p.y ∷ []) (var 2 ⊖ ((var 0 ⊗ var 3) ⊕ (var 1 ⊗ var 4))) ((((num (pos 0) ⊖ var 0) ⊗ var 3) ⊕ ((num (pos 0) ⊖ var 1) ⊗ var 4)) ⊕ var 2) refl }) vs m.n m.X m.Y (lowered vs all) m.mix in
     above _ _ (not_below_part m.n ((c *ℤ pos q.d) -ℤ (a *ℤ q.x +ℤ b *ℤ q.y)) m.some
-    (subst (λ z. pos 0 ≤ℤ z) (moved (pos m.n) (pos q.d) m.X m.Y q.x q.y m.x m.y) (not_below_times (pos q.d) _ (omega (arith, ints)) low)))
+    (subst (λ z. pos 0 ≤ℤ z) (moved (pos m.n) (pos q.d) m.X m.Y q.x q.y m.x m.y) (product_not_negative (pos q.d) _ (omega (arith, ints)) low)))
   where
     lowered : (us : List Pt) → AllByRecursion (λ u. dot a b u ≤ℤ c) us → AllByRecursion (λ u. pos 0 ≤ℤ (c -ℤ dot a b u)) us
     lowered [] g = tt

@@ -138,3 +138,27 @@ pairwise_map R f g (a ∷ xs) (b ∷ ys) h p = let e : f a ≡ g b = h a b p.0 i
 pub beside_map : {X Y : Type 0} (R : X → Y → Type 0) (f : X → Y) (xs : List X) → ((x : X) → Includes xs x → R x (f x)) → Pairwise R xs (map f xs)
 beside_map R f [] h = tt
 beside_map R f (x ∷ xs) h = (h x (inl refl), beside_map R f xs (λ y i. h y (inr i)))
+
+-- ---- lists one behind the other
+
+pub all_append : {X : Type 0} (P : X → Type 0) (xs ys : List X) → AllByRecursion P xs → AllByRecursion P ys → AllByRecursion P (xs ++ ys)
+all_append P [] ys h k = k
+all_append P (x ∷ xs) ys h k = (h.0, all_append P xs ys h.1 k)
+
+pub pairwise_append : {X Y : Type 0} (R : X → Y → Type 0) (xs xs' : List X) (ys ys' : List Y) → Pairwise R xs ys → Pairwise R xs' ys' → Pairwise R (xs ++ xs') (ys ++ ys')
+pairwise_append R [] xs' [] ys' p q = q
+pairwise_append R [] xs' (y ∷ ys) ys' p q = absurd p
+pairwise_append R (x ∷ xs) xs' [] ys' p q = absurd p
+pairwise_append R (x ∷ xs) xs' (y ∷ ys) ys' p q = (p.0, pairwise_append R xs xs' ys ys' p.1 q)
+
+-- ---- lengths
+
+pub pairwise_length : {X Y : Type 0} (R : X → Y → Type 0) (xs : List X) (ys : List Y) → Pairwise R xs ys → length xs ≡ length ys
+pairwise_length R [] [] h = refl
+pairwise_length R [] (y ∷ ys) h = absurd h
+pairwise_length R (x ∷ xs) [] h = absurd h
+pairwise_length R (x ∷ xs) (y ∷ ys) h = let k = pairwise_length R xs ys h.1 in omega (arith, k)
+
+pub numbers_from_length : (m n : ℕ) → length (numbers_from m n) ≡ n
+numbers_from_length m zero = refl
+numbers_from_length m (suc n) = omega (arith, numbers_from_length (m + 1) n)

@@ -10,6 +10,7 @@ use Rattle.spot_terms.specs.Hull.{weighted}
 use Rattle.spot_terms.specs.Lists.{Includes}
 use Rattle.spot_terms.proofs.Products.{*ℤ_assoc}
 use Rattle.spot_terms.proofs.Ring.{ring, var, ◌⊕◌, ◌⊗◌, spread}
+use Rattle.spot_terms.proofs.Orders.{product_not_negative}
 
 -- the sum of the weights of the points
 abbrev pub total : List ℕ → List Pt → ℕ
@@ -128,8 +129,6 @@ weighted_affine f l (w ∷ ws) (u ∷ vs) =
     (affine_step l.at_x l.at_y l.rest (pos w) u.x u.y (pos (total ws vs)) (weighted (λ v. v.x) ws vs) (weighted (λ v. v.y) ws vs))
 
 -- ---- signs
-pub not_below_times : (a b : ℤ) → pos 0 ≤ℤ a → pos 0 ≤ℤ b → pos 0 ≤ℤ (a *ℤ b)
-not_below_times a b h k = grind (arith, ints)
 
 -- a positive multiple has the sign
 pub not_below_part : (n : ℕ) (z : ℤ) → 0 < n → pos 0 ≤ℤ (pos n *ℤ z) → pos 0 ≤ℤ z
@@ -141,7 +140,7 @@ pub weighted_not_below : (f : Pt → ℤ) (ws : List ℕ) (vs : List Pt) → All
 weighted_not_below f [] vs h = omega (arith, ints)
 weighted_not_below f (w ∷ ws) [] h = omega (arith, ints)
 weighted_not_below f (w ∷ ws) (u ∷ vs) h =
-    let e : pos 0 ≤ℤ (pos w *ℤ f u) = not_below_times (pos w) (f u) (omega (arith, ints)) h.0 in
+    let e : pos 0 ≤ℤ (pos w *ℤ f u) = product_not_negative (pos w) (f u) (omega (arith, ints)) h.0 in
     let g : pos 0 ≤ℤ weighted f ws vs = weighted_not_below f ws vs h.1 in
     omega (arith, ints)
 

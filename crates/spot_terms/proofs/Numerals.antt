@@ -6,6 +6,7 @@ use Rattle.std.specs.Fmt.{digits, digits_onto, digit_glyph, signed_decimal}
 use Rattle.std.specs.Str.Parse.{digits_value, digits_value_after, AllDigits}
 use Rattle.std.proofs.lemmas.Bool.Decides.{nat_tests}
 use Rattle.spot_terms.specs.Report.{Text, digits_before, numeral, whole}
+use Rattle.spot_terms.proofs.Orders.{zero_of_true, positive_of_false}
 
 -- ---- digits
 
@@ -14,12 +15,6 @@ digit_back d h = grind (arith, nat_tests)
 
 glyph_back : (d : ℕ) → d < 10 → digit_glyph false d ≡ 48 + d
 glyph_back d h = grind (arith, nat_tests)
-
-zero_is : (n : ℕ) → (n == 0) ≡ true → n ≡ 0
-zero_is n h = grind (arith, nat_tests)
-
-some_is : (n : ℕ) → (n == 0) ≡ false → 0 < n
-some_is n h = grind (arith, nat_tests)
 
 -- ---- the number of a numeral
 
@@ -33,11 +28,11 @@ reads_before (suc k) n text h = by (λ m t l. reads_before k m t l) ((n / 10) ==
     by : ((m : ℕ) (t : Text) → m < k → digits_value 10 (digits_before k m t) ≡ digits_value_after 10 m t)
         → (b : Bool) → ((n / 10) == 0) ≡ b → digits_value 10 (elim b [ true ↦ (48 + n % 10) ∷ text | false ↦ digits_before k (n / 10) ((48 + n % 10) ∷ text) ]) ≡ digits_value_after 10 n text
     by further true e =
-        let front : n / 10 ≡ 0 = zero_is (n / 10) e in
+        let front : n / 10 ≡ 0 = zero_of_true (n / 10) e in
         let same : 0 * 10 + digit_value (48 + n % 10) ≡ n = omega (arith, last_is, front) in
         ap (λ (m : ℕ). digits_value_after 10 m text) same
     by further false e =
-        let some : 0 < n / 10 = some_is (n / 10) e in
+        let some : 0 < n / 10 = positive_of_false (n / 10) e in
         let same : n / 10 * 10 + digit_value (48 + n % 10) ≡ n = omega (arith, last_is) in
         further (n / 10) ((48 + n % 10) ∷ text) (omega (arith, some)) ∙ ap (λ (m : ℕ). digits_value_after 10 m text) same
 
@@ -86,19 +81,19 @@ same_digits zero k n text p q = by ((n / 10) == 0) refl
   where
     by : (b : Bool) → ((n / 10) == 0) ≡ b → cond b (digit_glyph false (n % 10) ∷ text) (digits_onto 0 10 false (n / 10) (digit_glyph false (n % 10) ∷ text)) ≡ elim b [ true ↦ (48 + n % 10) ∷ text | false ↦ digits_before k (n / 10) ((48 + n % 10) ∷ text) ]
     by true e = ap (λ (c : ℕ). c ∷ text) (glyph_back (n % 10) (omega arith))
-    by false e = let some : 0 < n / 10 = some_is (n / 10) e in absurd (omega (arith, some))
+    by false e = let some : 0 < n / 10 = positive_of_false (n / 10) e in absurd (omega (arith, some))
 same_digits (suc j) zero n text p q = by ((n / 10) == 0) refl
   where
     by : (b : Bool) → ((n / 10) == 0) ≡ b → cond b (digit_glyph false (n % 10) ∷ text) (digits_onto (suc j) 10 false (n / 10) (digit_glyph false (n % 10) ∷ text)) ≡ elim b [ true ↦ (48 + n % 10) ∷ text | false ↦ digits_before 0 (n / 10) ((48 + n % 10) ∷ text) ]
     by true e = ap (λ (c : ℕ). c ∷ text) (glyph_back (n % 10) (omega arith))
-    by false e = let some : 0 < n / 10 = some_is (n / 10) e in absurd (omega (arith, some))
+    by false e = let some : 0 < n / 10 = positive_of_false (n / 10) e in absurd (omega (arith, some))
 same_digits (suc j) (suc k) n text p q = by (λ m t a b. same_digits j k m t a b) ((n / 10) == 0) refl
   where
     by : ((m : ℕ) (t : Text) → m < 10 ^ suc j → m < suc k → digits_onto (suc j) 10 false m t ≡ digits_before (suc k) m t)
         → (b : Bool) → ((n / 10) == 0) ≡ b → cond b (digit_glyph false (n % 10) ∷ text) (digits_onto (suc j) 10 false (n / 10) (digit_glyph false (n % 10) ∷ text)) ≡ elim b [ true ↦ (48 + n % 10) ∷ text | false ↦ digits_before (suc k) (n / 10) ((48 + n % 10) ∷ text) ]
     by further true e = ap (λ (c : ℕ). c ∷ text) (glyph_back (n % 10) (omega arith))
     by further false e =
-        let some : 0 < n / 10 = some_is (n / 10) e in
+        let some : 0 < n / 10 = positive_of_false (n / 10) e in
         ap (λ (c : ℕ). digits_onto (suc j) 10 false (n / 10) (c ∷ text)) (glyph_back (n % 10) (omega arith)) ∙ further (n / 10) ((48 + n % 10) ∷ text) (omega arith) (omega (arith, some))
 
 pub numeral_is_decimal : (n : ℕ) → n < 10 ^ 64 → decimal n ≡ numeral n

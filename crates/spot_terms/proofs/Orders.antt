@@ -1,8 +1,12 @@
 -- Orders, signs, sums and products of whole numbers: what many proofs need between two steps.
-use Rattle.std.proofs.Common.{◌≡◌, ℕ, zero, suc, ◌+◌, ◌≤◌, ◌<◌, ◌⊎◌, inl, inr, arith, refl, [], ◌∷◌}
-use Rattle.std.proofs.lemmas.Int.{ints}
-use lib.IntN.{ℤ, pos, negsuc, ◌+ℤ◌, ◌-ℤ◌, ◌*ℤ◌}
+use Rattle.std.proofs.Common.{◌≡◌, ◌≢◌, ℕ, zero, suc, ◌+◌, ◌*◌, ◌≤◌, ◌<◌, ◌⊎◌, inl, inr, arith, rules, refl, [], ◌∷◌, true, false}
+use Rattle.std.specs.Prelude.{◌==◌, int_le, int_lt}
+use Rattle.std.specs.Int.{int_max}
+use Rattle.std.proofs.lemmas.Bool.Decides.{nat_tests}
+use Rattle.std.proofs.lemmas.Int.{ints, clamps}
+use lib.IntN.{ℤ, pos, negsuc, neg_ℤ, ◌+ℤ◌, ◌-ℤ◌, ◌*ℤ◌}
 use lib.Signed.{◌≤ℤ◌, ◌<ℤ◌}
+use Rattle.spot_terms.specs.Whole.{quotient_floor}
 use Rattle.spot_terms.proofs.Ring.{ring, var, num, ◌⊖◌, ◌⊗◌}
 
 -- ---- at most, below, equal
@@ -214,3 +218,54 @@ below_or_here k n h = grind arith
 
 pub below_one_more : (k n : ℕ) → k < n → k < n + 1
 below_one_more k n h = omega arith
+
+-- ---- what tests answer
+
+pub at_most_true : (a b : ℤ) → a ≤ℤ b → int_le a b ≡ true
+at_most_true a b h = search (rules, h)
+
+pub above_false : (a b : ℤ) → b <ℤ a → int_le a b ≡ false
+above_false a b h = search (rules, h)
+
+pub below_of_true : (a b : ℤ) → int_lt a b ≡ true → a <ℤ b
+below_of_true a b h = search (rules, h)
+
+pub zero_true : (n : ℕ) → n ≡ 0 → (n == 0) ≡ true
+zero_true n h = grind (arith, nat_tests)
+
+pub zero_of_true : (n : ℕ) → (n == 0) ≡ true → n ≡ 0
+zero_of_true n h = grind (arith, nat_tests)
+
+pub not_zero_false : (n : ℕ) → n ≢ 0 → (n == 0) ≡ false
+not_zero_false n h = grind (arith, nat_tests)
+
+pub positive_of_false : (n : ℕ) → (n == 0) ≡ false → 0 < n
+positive_of_false n h = grind (arith, nat_tests)
+
+pub greater_is_one : (a b : ℤ) → (int_max a b ≡ a) ⊎ (int_max a b ≡ b)
+greater_is_one a b = grind (arith, ints, clamps)
+
+-- ---- opposites by the sign
+
+pub at_most_opposite : (a b : ℤ) → a ≤ℤ b → (pos 0 -ℤ b) ≤ℤ neg_ℤ a
+at_most_opposite a b h = omega (arith, ints)
+
+-- ---- products of natural numbers
+
+pub product_order : (a b m n : ℕ) → a ≤ m → b ≤ n → a * b ≤ m * n
+product_order a b m n h k = grind arith
+
+pub factor_order : (a b c : ℕ) → a ≤ b → a * c ≤ b * c
+factor_order a b c h = grind arith
+
+-- a place in a row stands before the rows that come later
+pub row_before : (i j stride m : ℕ) → i < j → m ≤ stride → i * stride + m ≤ j * stride
+row_before i j stride m l h = let g : (i + 1) * stride ≤ j * stride = factor_order (i + 1) j stride (omega (arith, l)) in let e : (i + 1) * stride ≡ i * stride + stride = grind arith in omega (arith, g, e, h)
+
+pub times_not_negative : (k : ℕ) (z : ℤ) → pos 0 ≤ℤ z → pos 0 ≤ℤ (pos k *ℤ z)
+times_not_negative k (pos n) h = omega (arith, ints)
+times_not_negative k (negsuc n) h = absurd (omega (arith, ints, h))
+
+pub half_at_least : (x y : ℤ) → (pos 2 *ℤ x) ≤ℤ y → x ≤ℤ quotient_floor y (pos 2)
+half_at_least x (pos n) h = omega (arith, ints)
+half_at_least x (negsuc n) h = omega (arith, ints)

@@ -7,8 +7,9 @@ use lib.Signed.{◌≤ℤ◌, ◌<ℤ◌}
 use Rattle.spot_terms.specs.declared.plain.Pt.{Pt}
 use Rattle.spot_terms.specs.Hull.{InHull}
 use Rattle.spot_terms.proofs.Ring.{ring, var, ◌⊕◌, ◌⊖◌, ◌⊗◌}
-use Rattle.spot_terms.proofs.Mixes.{Mix, mix_add, mix_scale, mix_to, mix_included, not_below_times, not_below_part}
+use Rattle.spot_terms.proofs.Mixes.{Mix, mix_add, mix_scale, mix_to, mix_included, not_below_part}
 use Rattle.spot_terms.proofs.Hulls.{mix_hull}
+use Rattle.spot_terms.proofs.Orders.{at_most_trans, product_not_negative, sum_not_negative}
 
 -- some weighted points of vs, of sum above 0, at the x of q, and at least as high
 pub record Above (vs : List Pt) (q : Pt) : Type 0 where
@@ -53,7 +54,7 @@ above_times zero zero (suc t) b h k g = absurd (omega arith)
 above_times zero (suc a) (suc t) zero h k g = absurd (omega arith)
 above_times (suc s) zero t b h k g = absurd (omega arith)
 
--- the weights s and t of the two
+-- the weights s and t of the sum_not_negative
 mixed : (vs : List Pt) (q : Pt) (u : Above vs q) (l : Below vs q) (s t : ℕ) → (pos l.w *ℤ q.y) -ℤ l.y ≡ pos s → u.y -ℤ (pos u.w *ℤ q.y) ≡ pos t → 0 < s + t → InHull vs q
 mixed vs q u l s t hs ht some =
     mix_hull vs q (s * u.w + t * l.w) (above_times s u.w t l.w u.some l.some some)
@@ -78,9 +79,6 @@ between_in_hull vs q u l =
     pick zero zero hs ht = mix_hull vs q u.w u.some (mix_to vs _ _ _ _ _ _ refl refl (level u.y (pos u.w *ℤ q.y) 0 refl ht) u.mix)
     pick (suc s) t hs ht = mixed vs q u l (suc s) t hs ht (omega arith)
     pick zero (suc t) hs ht = mixed vs q u l 0 (suc t) hs ht (omega arith)
-
-two : (z w : ℤ) → pos 0 ≤ℤ z → pos 0 ≤ℤ w → pos 0 ≤ℤ (z +ℤ w)
-two z w h k = omega (arith, ints)
 
 three : (z w u : ℤ) → pos 0 ≤ℤ z → pos 0 ≤ℤ w → pos 0 ≤ℤ u → pos 0 ≤ℤ ((z +ℤ w) +ℤ u)
 three z w u h k g = omega (arith, ints)
@@ -122,9 +120,6 @@ ends_below s t xa ya x y xb yb hs ht h =
     undo : (z w : ℤ) → pos 0 ≤ℤ (z -ℤ w) → w ≤ℤ z
     undo z w h = omega (arith, ints)
 
-le_le : (z w u : ℤ) → z ≤ℤ w → w ≤ℤ u → z ≤ℤ u
-le_le z w u h k = omega (arith, ints)
-
 line_above : (b xa ya x y xb yb m f : ℤ) → b *ℤ ((((xb -ℤ x) *ℤ ya) +ℤ ((x -ℤ xa) *ℤ yb)) -ℤ (((xb -ℤ x) +ℤ (x -ℤ xa)) *ℤ y)) ≡ (((xb -ℤ x) *ℤ ((b *ℤ ya) -ℤ ((m *ℤ xa) +ℤ f))) +ℤ ((x -ℤ xa) *ℤ ((b *ℤ yb) -ℤ ((m *ℤ xb) +ℤ f)))) +ℤ (((xb -ℤ x) +ℤ (x -ℤ xa)) *ℤ (((m *ℤ x) +ℤ f) -ℤ (b *ℤ y)))
 line_above b xa ya x y xb yb m f =
     ring (b ∷ xa ∷ ya ∷ x ∷ y ∷ xb ∷ yb ∷ m ∷ f ∷ [])
@@ -137,9 +132,9 @@ chord_above b xa ya x y xb yb m f some s t ha hb hq =
     not_below_part b _ some
     (subst (λ z. pos 0 ≤ℤ z) (sym (line_above (pos b) xa ya x y xb yb m f))
     (three _ _ _
-    (not_below_times (xb -ℤ x) _ s ha)
-    (not_below_times (x -ℤ xa) _ t hb)
-    (not_below_times ((xb -ℤ x) +ℤ (x -ℤ xa)) _ (two _ _ s t) hq)))
+    (product_not_negative (xb -ℤ x) _ s ha)
+    (product_not_negative (x -ℤ xa) _ t hb)
+    (product_not_negative ((xb -ℤ x) +ℤ (x -ℤ xa)) _ (sum_not_negative _ _ s t) hq)))
 
 pub segment_above : (vs : List Pt) (A B q : Pt) (b : ℕ) (m f : ℤ) → Includes vs A → Includes vs B → A.x ≤ℤ q.x → q.x ≤ℤ B.x → 0 < b → (pos b *ℤ q.y) ≤ℤ ((m *ℤ q.x) +ℤ f) → ((m *ℤ A.x) +ℤ f) ≤ℤ (pos b *ℤ A.y) → ((m *ℤ B.x) +ℤ f) ≤ℤ (pos b *ℤ B.y) → Above vs q
 segment_above vs A B q b m f hasA hasB left right some hq ha hb =
@@ -167,7 +162,7 @@ segment_above vs A B q b m f hasA hasB left right some hq ha hb =
 
     alone : (b : ℕ) (xa ya x y m f : ℤ) → 0 < b → xa ≡ x → (pos b *ℤ y) ≤ℤ ((m *ℤ x) +ℤ f) → ((m *ℤ xa) +ℤ f) ≤ℤ (pos b *ℤ ya) → (pos 1 *ℤ y) ≤ℤ ya
     alone b xa ya x y m f some e h k =
-        let g : (pos b *ℤ y) ≤ℤ (pos b *ℤ ya) = le_le _ _ _ h (subst (λ z. ((m *ℤ z) +ℤ f) ≤ℤ (pos b *ℤ ya)) e k) in
+        let g : (pos b *ℤ y) ≤ℤ (pos b *ℤ ya) = at_most_trans _ _ _ h (subst (λ z. ((m *ℤ z) +ℤ f) ≤ℤ (pos b *ℤ ya)) e k) in
         let d : pos 0 ≤ℤ (ya -ℤ y) = not_below_part b (ya -ℤ y) some (drawn b y ya g) in
         omega (arith, ints, d)
 
@@ -194,9 +189,9 @@ chord_below b xa ya x y xb yb m f some s t ha hb hq =
     not_below_part b _ some
     (subst (λ z. pos 0 ≤ℤ z) (sym (line_below (pos b) xa ya x y xb yb m f))
     (three _ _ _
-    (not_below_times (xb -ℤ x) _ s ha)
-    (not_below_times (x -ℤ xa) _ t hb)
-    (not_below_times ((xb -ℤ x) +ℤ (x -ℤ xa)) _ (two _ _ s t) hq)))
+    (product_not_negative (xb -ℤ x) _ s ha)
+    (product_not_negative (x -ℤ xa) _ t hb)
+    (product_not_negative ((xb -ℤ x) +ℤ (x -ℤ xa)) _ (sum_not_negative _ _ s t) hq)))
 
 pub segment_below : (vs : List Pt) (A B q : Pt) (b : ℕ) (m f : ℤ) → Includes vs A → Includes vs B → A.x ≤ℤ q.x → q.x ≤ℤ B.x → 0 < b → ((m *ℤ q.x) +ℤ f) ≤ℤ (pos b *ℤ q.y) → (pos b *ℤ A.y) ≤ℤ ((m *ℤ A.x) +ℤ f) → (pos b *ℤ B.y) ≤ℤ ((m *ℤ B.x) +ℤ f) → Below vs q
 segment_below vs A B q b m f hasA hasB left right some hq ha hb =
@@ -224,7 +219,7 @@ segment_below vs A B q b m f hasA hasB left right some hq ha hb =
 
     alone : (b : ℕ) (xa ya x y m f : ℤ) → 0 < b → xa ≡ x → ((m *ℤ x) +ℤ f) ≤ℤ (pos b *ℤ y) → (pos b *ℤ ya) ≤ℤ ((m *ℤ xa) +ℤ f) → ya ≤ℤ (pos 1 *ℤ y)
     alone b xa ya x y m f some e h k =
-        let g : (pos b *ℤ ya) ≤ℤ (pos b *ℤ y) = le_le _ _ _ (subst (λ z. (pos b *ℤ ya) ≤ℤ ((m *ℤ z) +ℤ f)) e k) h in
+        let g : (pos b *ℤ ya) ≤ℤ (pos b *ℤ y) = at_most_trans _ _ _ (subst (λ z. (pos b *ℤ ya) ≤ℤ ((m *ℤ z) +ℤ f)) e k) h in
         let d : pos 0 ≤ℤ (y -ℤ ya) = not_below_part b (y -ℤ ya) some (drawn b ya y g) in
         omega (arith, ints, d)
 

@@ -20,3 +20,6 @@ pairwise_one R one (x ∷ xs) (y ∷ ys) (z ∷ zs) p q =
     let first : y ≡ z = one x y z p.0 q.0 in
     let rest : ys ≡ zs = pairwise_one R one xs ys zs p.1 q.1 in
     cc
+
+pub some_injective : {X : Type 0} (x y : X) → Some x ≡ Some y → x ≡ y
+some_injective x y e = cc

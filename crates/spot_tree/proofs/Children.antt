@@ -8,6 +8,7 @@ use Rattle.spot_claims.specs.Tree.{Element, wanted, wanted_in, wanted_behind_nam
 use Rattle.spot_claims.specs.Tree.{IsTree, Rising, all_children}
 use Rattle.spot_tree.proofs.Numbering.{numbered-append, behind_name_is, length-numbered, wanted_other}
 use Rattle.spot_tree.proofs.Parents.{once_in}
+use Rattle.spot_terms.proofs.ListLemmas.{all_append}
 
 abbrev Below : ℕ → List ℕ → Type 0
 Below end cs = AllByRecursion (λ c. c < end) cs
@@ -32,10 +33,6 @@ children_rise n (item (string s) ds) = children_rise n ds
 children_rise n (item (array es) ds) = (omega arith, from_lower (n + 1) (n + length (wanted (array es))) (children_from (n + length (wanted (array es))) ds) (omega arith) (children_rise (n + length (wanted (array es))) ds))
 children_rise n (item (object ms) ds) = (omega arith, children_rise (n + 1) ds)
 
-both : {A : Type 0} (P : A → Type 0) (xs ys : List A) → AllByRecursion P xs → AllByRecursion P ys → AllByRecursion P (xs ++ ys)
-both P [] ys h k = k
-both P (x ∷ xs) ys h k = (h.0, both P xs ys h.1 k)
-
 one_child : (n end : ℕ) (d : Data) (rest : List ℕ) (b : Bool) → b ≡ is_string d → (b ≡ false → n < end) → Below end (cond b rest rest) → (b ≡ false → Below end (n ∷ rest)) → Below end (cond b rest (n ∷ rest))
 one_child n end d rest true e f g h = g
 one_child n end d rest false e f g h = h refl
@@ -52,7 +49,7 @@ children_below n end (item (array es) ds) h =
 children_below n end (item (object ms) ds) h = (omega arith, children_below (n + 1) end ds (omega arith))
 
 joined_inside : (n end : ℕ) (xs ys : List Data) → Inside end (numbered n xs) → Inside end (numbered (n + length xs) ys) → Inside end (numbered n (xs ++ ys))
-joined_inside n end xs ys h k = subst (Inside end) (sym (numbered-append n xs ys)) (both _ (numbered n xs) (numbered (n + length xs) ys) h k)
+joined_inside n end xs ys h k = subst (Inside end) (sym (numbered-append n xs ys)) (all_append _ (numbered n xs) (numbered (n + length xs) ys) h k)
 
 no_child : (end : ℕ) → All (λ c. c < end) [] × Rising 0 []
 no_child end = (All-from_recursion (λ (c : ℕ). c < end) [] tt, tt)

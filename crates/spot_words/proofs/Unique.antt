@@ -3,9 +3,7 @@ use Rattle.std.proofs.Common.{◌≡◌, ◌∙◌, List, Some, sym}
 use Rattle.clap.specs.Words.{Text}
 use Rattle.spot_terms.specs.declared.command.Command.{Command}
 use Rattle.spot_words.specs.Words.{AreCommand}
-
-of_some : {A : Type 0} (a b : A) → Some a ≡ Some b → a ≡ b
-of_some a b e = cc
+use Rattle.spot_terms.proofs.Unique.{some_injective}
 
 same_command : (c d : Command) → c.task ≡ d.task → c.steps ≡ d.steps → c.problem ≡ d.problem → c.ego_acc ≡ d.ego_acc → c.ego_speed ≡ d.ego_speed → c.ego_length ≡ d.ego_length → c.ego_width ≡ d.ego_width → c.cell_x ≡ d.cell_x → c.cell_y ≡ d.cell_y → c.seed ≡ d.seed → c.lanes ≡ d.lanes → c.movers ≡ d.movers → c ≡ d
 same_command c d e0 e1 e2 e3 e4 e5 e6 e7 e8 e9 ea eb =
@@ -13,6 +11,6 @@ same_command c d e0 e1 e2 e3 e4 e5 e6 e7 e8 e9 ea eb =
 
 pub command_is_one : (words : List Text) (c d : Command) → AreCommand words c → AreCommand words d → c ≡ d
 command_is_one words c d a b =
-    same_command c d (of_some _ _ (sym a.task ∙ b.task)) (of_some _ _ (sym a.steps ∙ b.steps)) (of_some _ _ (sym a.problem ∙ b.problem))
-    (of_some _ _ (sym a.ego_acc ∙ b.ego_acc)) (of_some _ _ (sym a.ego_speed ∙ b.ego_speed)) (of_some _ _ (sym a.ego_length ∙ b.ego_length)) (of_some _ _ (sym a.ego_width ∙ b.ego_width))
-    (of_some _ _ (sym a.cell_x ∙ b.cell_x)) (of_some _ _ (sym a.cell_y ∙ b.cell_y)) (of_some _ _ (sym a.seed ∙ b.seed)) (of_some _ _ (sym a.lanes ∙ b.lanes)) (of_some _ _ (sym a.movers ∙ b.movers))
+    same_command c d (some_injective _ _ (sym a.task ∙ b.task)) (some_injective _ _ (sym a.steps ∙ b.steps)) (some_injective _ _ (sym a.problem ∙ b.problem))
+    (some_injective _ _ (sym a.ego_acc ∙ b.ego_acc)) (some_injective _ _ (sym a.ego_speed ∙ b.ego_speed)) (some_injective _ _ (sym a.ego_length ∙ b.ego_length)) (some_injective _ _ (sym a.ego_width ∙ b.ego_width))
+    (some_injective _ _ (sym a.cell_x ∙ b.cell_x)) (some_injective _ _ (sym a.cell_y ∙ b.cell_y)) (some_injective _ _ (sym a.seed ∙ b.seed)) (some_injective _ _ (sym a.lanes ∙ b.lanes)) (some_injective _ _ (sym a.movers ∙ b.movers))

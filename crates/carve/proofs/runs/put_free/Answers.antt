@@ -7,9 +7,7 @@ use Rattle.carve.specs.declared.runs.Span.{Span}
 use Rattle.carve.proofs.Founds.{nothing_found, found_over, found_run, found_all, found_covers, found_few, ends_later, has_room, low_le}
 use Rattle.carve.proofs.runs.put_free.Goals as goal
 use Rattle.carve.proofs.runs.put_free.Goals.{else-i-spans-via-then-i-spans+else-spans-i, else-i-spans-via-else-i-spans}
-
-below : (a b : ℤ) → int_lt a b ≡ true → a <ℤ b
-below a b h = search rules
+use Rattle.spot_terms.proofs.Orders.{below_of_true}
 
 above : (a b : ℤ) → int_lt a b ≡ false → b ≤ℤ a
 above a b h = search rules
@@ -68,7 +66,7 @@ loop-at-smaller-then-spans-i c =
     let is_end : c.border_before-end.result ≡ slot_low c.args.w (c.args.last +ℤ pos 1) = simp to_z-of_z at c.border_before-end.ensures in
     let wide : pos 0 <ℤ c.args.w = omega (arith, ints, c.requires.wide.low) in
     let found : AreFoundBefore c.args.spans.now c.args.w c.args.first c.border_before-end.result (to_z w64 c.loop-at.at-bits) c.loop-at.i c.loop-at.free.items = simp to_z-of_z at c.loop-at.invariant.found in
-    let before : to_z w64 c.loop-at.at-bits <ℤ c.border_before-end.result = below _ _ (simp to_z-of_z at c.loop-at-test.true) in
+    let before : to_z w64 c.loop-at.at-bits <ℤ c.border_before-end.result = below_of_true _ _ (simp to_z-of_z at c.loop-at-test.true) in
     let fits_past : FitsSigned w64 c.past-at.result = record { sfits = c.past-at.type_inv } in
     let begun : (span_at c.args.spans.now c.loop-at.i).first ≤ℤ to_z w64 c.loop-at.at-bits = search (rules, c.if-spans-i.true) in
     let past : IsPast (to_z w64 c.loop-at.at-bits) (span_at c.args.spans.now c.loop-at.i).last c.border_before-end.result c.past-at.result = search (rules, c.past-at.ensures) in
@@ -84,7 +82,7 @@ loop-at-preserved-then-spans-i c =
     let is_end : c.border_before-end.result ≡ slot_low c.args.w (c.args.last +ℤ pos 1) = simp to_z-of_z at c.border_before-end.ensures in
     let wide : pos 0 <ℤ c.args.w = omega (arith, ints, c.requires.wide.low) in
     let found : AreFoundBefore c.args.spans.now c.args.w c.args.first c.border_before-end.result (to_z w64 c.loop-at.at-bits) c.loop-at.i c.loop-at.free.items = simp to_z-of_z at c.loop-at.invariant.found in
-    let before : to_z w64 c.loop-at.at-bits <ℤ c.border_before-end.result = below _ _ (simp to_z-of_z at c.loop-at-test.true) in
+    let before : to_z w64 c.loop-at.at-bits <ℤ c.border_before-end.result = below_of_true _ _ (simp to_z-of_z at c.loop-at-test.true) in
     let fits_past : FitsSigned w64 c.past-at.result = record { sfits = c.past-at.type_inv } in
     let begun : (span_at c.args.spans.now c.loop-at.i).first ≤ℤ to_z w64 c.loop-at.at-bits = search (rules, c.if-spans-i.true) in
     let past : IsPast (to_z w64 c.loop-at.at-bits) (span_at c.args.spans.now c.loop-at.i).last c.border_before-end.result c.past-at.result = search (rules, c.past-at.ensures) in
@@ -106,7 +104,7 @@ push_run-requires-clause-to c =
     let is_end : c.border_before-end.result ≡ slot_low c.args.w (c.args.last +ℤ pos 1) = simp to_z-of_z at c.border_before-end.ensures in
     let wide : pos 0 <ℤ c.args.w = omega (arith, ints, c.requires.wide.low) in
     let found : AreFoundBefore c.args.spans.now c.args.w c.args.first c.border_before-end.result (to_z w64 c.loop-at.at-bits) c.loop-at.i c.loop-at.free.items = simp to_z-of_z at c.loop-at.invariant.found in
-    let before : to_z w64 c.loop-at.at-bits <ℤ c.border_before-end.result = below _ _ (simp to_z-of_z at c.loop-at-test.true) in
+    let before : to_z w64 c.loop-at.at-bits <ℤ c.border_before-end.result = below_of_true _ _ (simp to_z-of_z at c.loop-at-test.true) in
     let fits_run : FitsSigned w64 c.end_of_run-next.result = record { sfits = c.end_of_run-next.type_inv } in
     let ends : IsEndOfRun c.args.spans.now c.loop-at.i c.args.w (to_z w64 c.loop-at.at-bits) c.border_before-end.result c.end_of_run-next.result = search (rules, c.end_of_run-next.ensures) in
     let ahead : c.loop-at.i < length c.args.spans.now → to_z w64 c.loop-at.at-bits <ℤ (span_at c.args.spans.now c.loop-at.i).first = λ listed. elim c.else-i-spans.branch [
@@ -126,7 +124,7 @@ push_run-requires-clause-room c =
     let is_end : c.border_before-end.result ≡ slot_low c.args.w (c.args.last +ℤ pos 1) = simp to_z-of_z at c.border_before-end.ensures in
     let wide : pos 0 <ℤ c.args.w = omega (arith, ints, c.requires.wide.low) in
     let found : AreFoundBefore c.args.spans.now c.args.w c.args.first c.border_before-end.result (to_z w64 c.loop-at.at-bits) c.loop-at.i c.loop-at.free.items = simp to_z-of_z at c.loop-at.invariant.found in
-    let before : to_z w64 c.loop-at.at-bits <ℤ c.border_before-end.result = below _ _ (simp to_z-of_z at c.loop-at-test.true) in
+    let before : to_z w64 c.loop-at.at-bits <ℤ c.border_before-end.result = below_of_true _ _ (simp to_z-of_z at c.loop-at-test.true) in
     let ahead : c.loop-at.i < length c.args.spans.now → to_z w64 c.loop-at.at-bits <ℤ (span_at c.args.spans.now c.loop-at.i).first = λ listed. elim c.else-i-spans.branch [
       | else-i-spans-via-then-i-spans+else-spans-i w ↦ not_at_most (span_at c.args.spans.now c.loop-at.i).first (to_z w64 c.loop-at.at-bits) (search (rules, w.if-spans-i.false))
       | else-i-spans-via-else-i-spans w ↦ absurd (omega (arith, w.if-i-spans.false))
@@ -146,7 +144,7 @@ loop-at-smaller c =
     let is_end : c.border_before-end.result ≡ slot_low c.args.w (c.args.last +ℤ pos 1) = simp to_z-of_z at c.border_before-end.ensures in
     let wide : pos 0 <ℤ c.args.w = omega (arith, ints, c.requires.wide.low) in
     let found : AreFoundBefore c.args.spans.now c.args.w c.args.first c.border_before-end.result (to_z w64 c.loop-at.at-bits) c.loop-at.i c.loop-at.free.items = simp to_z-of_z at c.loop-at.invariant.found in
-    let before : to_z w64 c.loop-at.at-bits <ℤ c.border_before-end.result = below _ _ (simp to_z-of_z at c.loop-at-test.true) in
+    let before : to_z w64 c.loop-at.at-bits <ℤ c.border_before-end.result = below_of_true _ _ (simp to_z-of_z at c.loop-at-test.true) in
     let fits_run : FitsSigned w64 c.end_of_run-next.result = record { sfits = c.end_of_run-next.type_inv } in
     let ends : IsEndOfRun c.args.spans.now c.loop-at.i c.args.w (to_z w64 c.loop-at.at-bits) c.border_before-end.result c.end_of_run-next.result = search (rules, c.end_of_run-next.ensures) in
     let ahead : c.loop-at.i < length c.args.spans.now → to_z w64 c.loop-at.at-bits <ℤ (span_at c.args.spans.now c.loop-at.i).first = λ listed. elim c.else-i-spans.branch [
@@ -166,7 +164,7 @@ loop-at-preserved c =
     let is_end : c.border_before-end.result ≡ slot_low c.args.w (c.args.last +ℤ pos 1) = simp to_z-of_z at c.border_before-end.ensures in
     let wide : pos 0 <ℤ c.args.w = omega (arith, ints, c.requires.wide.low) in
     let found : AreFoundBefore c.args.spans.now c.args.w c.args.first c.border_before-end.result (to_z w64 c.loop-at.at-bits) c.loop-at.i c.loop-at.free.items = simp to_z-of_z at c.loop-at.invariant.found in
-    let before : to_z w64 c.loop-at.at-bits <ℤ c.border_before-end.result = below _ _ (simp to_z-of_z at c.loop-at-test.true) in
+    let before : to_z w64 c.loop-at.at-bits <ℤ c.border_before-end.result = below_of_true _ _ (simp to_z-of_z at c.loop-at-test.true) in
     let fits_run : FitsSigned w64 c.end_of_run-next.result = record { sfits = c.end_of_run-next.type_inv } in
     let ends : IsEndOfRun c.args.spans.now c.loop-at.i c.args.w (to_z w64 c.loop-at.at-bits) c.border_before-end.result c.end_of_run-next.result = search (rules, c.end_of_run-next.ensures) in
     let ahead : c.loop-at.i < length c.args.spans.now → to_z w64 c.loop-at.at-bits <ℤ (span_at c.args.spans.now c.loop-at.i).first = λ listed. elim c.else-i-spans.branch [

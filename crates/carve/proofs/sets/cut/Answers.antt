@@ -3,7 +3,7 @@ use Rattle.std.proofs.lemmas.List.{take_more}
 use Rattle.std.proofs.lemmas.Int.{ints}
 use Rattle.spot_terms.specs.BaseSets.{SetValue}
 use Rattle.spot_terms.specs.ClippedTo.{places}
-use Rattle.convex_poly.proofs.Places.{all_at}
+use Rattle.spot_terms.proofs.Places.{all_at}
 use Rattle.round_out.specs.Parts.{IsPart, KeepsParts}
 use Rattle.base_sets.specs.Values.{value_of}
 use Rattle.carve.specs.Cuts.{with_x}

@@ -2,7 +2,7 @@ use Rattle.std.proofs.Common.{◌≡◌, get_or, subst, sym, refl, true, false}
 use Rattle.convex_poly.specs.Pivots.{IsLeftwards, minus}
 use Rattle.convex_poly.proofs.Corners.{origin}
 use Rattle.spot_terms.proofs.ListLemmas.{includes_at}
-use Rattle.convex_poly.proofs.Places.{below_and_here, all_places}
+use Rattle.spot_terms.proofs.Places.{below_and_here, all_places}
 use Rattle.convex_poly.proofs.apart.are_left.Goals as goal
 
 pub returns-then-not-is_leftwards : goal.returns-then-not-is_leftwards

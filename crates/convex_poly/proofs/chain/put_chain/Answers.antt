@@ -3,9 +3,10 @@ use Rattle.std.specs.List.{AllByRecursion}
 use Rattle.spot_terms.specs.declared.plain.Pt.{Pt}
 use Rattle.convex_poly.specs.Polygons.{IsPosition}
 use Rattle.convex_poly.proofs.Corners.{origin}
-use Rattle.convex_poly.proofs.Places.{same_index, all_at}
-use Rattle.convex_poly.proofs.ChainSteps.{chain_more, front_few, whole_chain, all_append, all_take}
+use Rattle.spot_terms.proofs.Places.{same_index, all_at}
+use Rattle.convex_poly.proofs.ChainSteps.{chain_more, front_few, whole_chain, all_take}
 use Rattle.convex_poly.proofs.chain.put_chain.Goals as goal
+use Rattle.spot_terms.proofs.ListLemmas.{all_append}
 
 pub loop-p-preserved : goal.loop-p-preserved
 loop-p-preserved g c =

@@ -1,7 +1,7 @@
 use Rattle.std.proofs.Common.{ℤ, w64, arith, get_or, to_z, of_z, ◌-◌, length, None, subst, sym}
 use Rattle.std.proofs.lemmas.Int.{to_z-of_z}
 use Rattle.convex_poly.proofs.Corners.{origin}
-use Rattle.convex_poly.proofs.Places.{all_at}
+use Rattle.spot_terms.proofs.Places.{all_at}
 use Rattle.convex_poly.specs.Polygons.{IsPosition}
 use Rattle.convex_poly.specs.Runs.{IsRun, IsStart, IsInRows}
 use Rattle.convex_poly.proofs.RunSteps.{IsNarrowed}

@@ -1,6 +1,6 @@
 use Rattle.std.proofs.Common.{w64, to_z-of_z, FitsSigned, arith}
 use Rattle.convex_poly.proofs.Corners.{origin}
-use Rattle.convex_poly.proofs.Places.{all_at}
+use Rattle.spot_terms.proofs.Places.{all_at}
 use Rattle.convex_poly.specs.Polygons.{IsPosition}
 use Rattle.convex_poly.proofs.RunRows.{start_one, start_two, corner_order}
 use Rattle.convex_poly.proofs.runs.start.Goals as goal

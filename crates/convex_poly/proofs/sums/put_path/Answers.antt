@@ -2,10 +2,10 @@ use Rattle.std.proofs.Common.{◌≡◌, ◌∙◌, ◌+◌, ◌<◌, ◌++◌, 
 use Rattle.std.specs.List.{AllByRecursion}
 use Rattle.spot_terms.specs.declared.plain.Pt.{Pt}
 use Rattle.convex_poly.specs.Polygons.{IsPosition}
-use Rattle.convex_poly.proofs.ChainSteps.{all_append}
 use Rattle.convex_poly.proofs.Merges.{so_far_none, so_far_step, so_far_whole}
 use Rattle.convex_poly.proofs.sums.put_path.Goals as goal
 use Rattle.convex_poly.proofs.sums.put_path.Goals.{then-i-a, else-i-a+then-j-b, then-goes_first, else-goes_first}
+use Rattle.spot_terms.proofs.ListLemmas.{all_append}
 
 pub loop-i-init : goal.loop-i-init
 loop-i-init c =

@@ -4,7 +4,7 @@ use Rattle.std.specs.List.{AllByRecursion}
 use Rattle.spot_terms.specs.declared.plain.Pt.{Pt}
 use Rattle.spot_terms.proofs.ListLemmas.{includes_at}
 use Rattle.convex_poly.proofs.Corners.{origin}
-use Rattle.convex_poly.proofs.Places.{all_at}
+use Rattle.spot_terms.proofs.Places.{all_at}
 use Rattle.lane_paths.specs.Clearances.{IsLesserClearance, IsSmall, ReachesTo}
 use Rattle.lane_paths.proofs.LeastClearances.{least_none, least_more, least_all, rest_reached, small_reach}
 use Rattle.lane_paths.proofs.clearances.least_clearance.Goals as goal

@@ -1,6 +1,6 @@
 use Rattle.std.proofs.Common.{get_or}
 use Rattle.convex_poly.proofs.Corners.{origin}
-use Rattle.convex_poly.proofs.Places.{all_at}
+use Rattle.spot_terms.proofs.Places.{all_at}
 use Rattle.lane_paths.specs.Clearances.{ReachesTo}
 use Rattle.lane_paths.proofs.LeastClearances.{lesser_none, lesser_then, lesser_all, reached_down}
 use Rattle.lane_paths.proofs.clearances.lesser_clearance.Goals as goal

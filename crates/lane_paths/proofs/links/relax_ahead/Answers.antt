@@ -1,7 +1,7 @@
 use Rattle.std.proofs.Common.{[], ◌<◌, length}
 use Rattle.spot_terms.specs.Cells.{cells}
 use Rattle.spot_terms.specs.Network.{IsAhead}
-use Rattle.convex_poly.proofs.Places.{all_at}
+use Rattle.spot_terms.proofs.Places.{all_at}
 use Rattle.lane_paths.specs.Waypoints.{LinksToEntries}
 use Rattle.lane_paths.proofs.LinkLaws.{no_entries, entries_more, entries_all}
 use Rattle.lane_paths.proofs.RelaxLaws.{relaxes_none}

@@ -1,6 +1,6 @@
 use Rattle.std.proofs.Common.{[], get_or}
 use Rattle.spot_terms.specs.Routes.{IsStartCell}
-use Rattle.convex_poly.proofs.Places.{all_at}
+use Rattle.spot_terms.proofs.Places.{all_at}
 use Rattle.lane_paths.specs.Waypoints.{LinksFromStart}
 use Rattle.lane_paths.proofs.LinkLaws.{no_starts, start_within, start_inside, starts_step, starts_all}
 use Rattle.lane_paths.proofs.RelaxLaws.{relaxes_none}

@@ -3,14 +3,14 @@ use Rattle.std.specs.Prelude.{Some, slice_get}
 use Rattle.spot_terms.proofs.ListLemmas.{all_of}
 use Rattle.lanelets.specs.Listing.{Gathers}
 use Rattle.lanelets.specs.Steps.{IsJoinedFrom}
-use Rattle.lanelets.proofs.Places.{place_below}
 use Rattle.lanelets.proofs.StepLists.{onto_first}
 use Rattle.lanelets.proofs.ahead.add_onto_first.Goals as goal
+use Rattle.spot_terms.proofs.ItemPlaces.{got_below}
 
 pub add_joined-requires-clause-within : goal.add_joined-requires-clause-within
 add_joined-requires-clause-within c =
     all_of (λ x. x < length c.args.lanes.now.entries) c.list_at.result.now (λ e i. let followed = (c.requires.links.sources.each c.args.f c.list_at.result.now (rw c.deref.ensures.value at c.list_at.ensures) e).0 i in
-    place_below c.args.lanes.now.entries e followed.0 followed.2)
+    got_below c.args.lanes.now.entries e followed.0 followed.2)
 
 pub returns : goal.returns
 returns c =

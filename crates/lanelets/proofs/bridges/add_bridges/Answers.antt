@@ -3,8 +3,8 @@ use Rattle.lanelets.specs.Bridges.{bridges_of}
 use Rattle.lanelets.specs.Made.{IsPlaced}
 use Rattle.lanelets.proofs.Adding.{along_step, along_end}
 use Rattle.lanelets.proofs.BridgeLists.{bridges_step, bridges_end}
-use Rattle.lanelets.proofs.Places.{item_at}
 use Rattle.lanelets.proofs.bridges.add_bridges.Goals as goal
+use Rattle.spot_terms.proofs.ItemPlaces.{item_at}
 
 pub add_bridges_from-requires-clause-after : goal.add_bridges_from-requires-clause-after
 add_bridges_from-requires-clause-after c = c.requires.links.after.each c.loop-e.e c.list_at.result.now (rw c.deref.ensures.value at c.list_at.ensures)

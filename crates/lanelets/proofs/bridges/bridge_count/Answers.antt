@@ -2,8 +2,8 @@ use Rattle.std.proofs.Common.{◌≡◌, ◌∙◌, ◌+◌, ◌<◌, ◌≤◌,
 use Rattle.spot_terms.specs.Cells.{bridges_from}
 use Rattle.lanelets.specs.Bridges.{bridges_of}
 use Rattle.lanelets.proofs.BridgeLists.{bridges_step, bridges_end}
-use Rattle.lanelets.proofs.Places.{item_at}
 use Rattle.lanelets.proofs.bridges.bridge_count.Goals as goal
+use Rattle.spot_terms.proofs.ItemPlaces.{item_at}
 
 pub bridge_count_from-count-requires-clause-after : goal.bridge_count_from-count-requires-clause-after
 bridge_count_from-count-requires-clause-after c = c.requires.links.after.each c.loop-e.e c.list_at.result.now (rw c.deref.ensures.value at c.list_at.ensures)

@@ -5,15 +5,15 @@ use Rattle.lanelets.specs.Beside.{SidesAmong}
 use Rattle.lanelets.specs.Levels.{Gains}
 use Rattle.lanelets.specs.Steps.{net_of}
 use Rattle.lanelets.proofs.PairLists.{among_none, side_more, side_less}
-use Rattle.lanelets.proofs.Places.{all_read}
 use Rattle.lanelets.proofs.pairs.push_among.Goals as goal
 use Rattle.lanelets.proofs.pairs.push_among.Goals.{then-are_side_cells+in_ok-push, else-are_side_cells}
+use Rattle.spot_terms.proofs.Places.{all_at}
 
 pub loop-d-init : goal.loop-d-init
 loop-d-init c = λ every k. among_none every (net_of c.args.cells.now) c.args.c (Includes []) c.args.pairs.now.items (λ d i. i)
 
 pub are_side_cells-requires-clause-second : goal.are_side_cells-requires-clause-second
-are_side_cells-requires-clause-second c = all_read (λ x. x < length c.args.cells.now) c.args.list.now c.loop-d.d-index 0 c.requires.list c.loop-d-test.true
+are_side_cells-requires-clause-second c = all_at (λ x. x < length c.args.cells.now) c.args.list.now c.loop-d.d-index 0 c.requires.list c.loop-d-test.true
 
 pub loop-d-preserved : goal.loop-d-preserved
 loop-d-preserved c = λ every k.

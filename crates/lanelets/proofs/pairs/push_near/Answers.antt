@@ -5,14 +5,14 @@ use Rattle.lanelets.specs.Beside.{SidesAmong, SidesOf}
 use Rattle.lanelets.specs.Levels.{GainsBetween}
 use Rattle.lanelets.specs.Steps.{net_of, IsOfLane}
 use Rattle.lanelets.proofs.PairLists.{near_none, near_more}
-use Rattle.lanelets.proofs.Places.{all_read}
 use Rattle.lanelets.proofs.pairs.push_near.Goals as goal
+use Rattle.spot_terms.proofs.Places.{all_at}
 
 pub loop-f-init : goal.loop-f-init
 loop-f-init c = λ every k. near_none every (net_of c.args.cells.now) c.args.c c.args.pairs.now.items
 
 pub candidates-requires-clause-lane : goal.candidates-requires-clause-lane
-candidates-requires-clause-lane c = all_read (λ x. x < length c.args.lanes.now) c.args.near.now c.loop-f.f-index 0 c.requires.near c.loop-f-test.true
+candidates-requires-clause-lane c = all_at (λ x. x < length c.args.lanes.now) c.args.near.now c.loop-f.f-index 0 c.requires.near c.loop-f-test.true
 
 pub loop-f-preserved : goal.loop-f-preserved
 loop-f-preserved c = λ every k.

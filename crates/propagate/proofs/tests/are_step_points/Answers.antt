@@ -1,6 +1,6 @@
 use Rattle.std.proofs.Common.{refl}
 use Rattle.spot_terms.proofs.ListLemmas.{all_of}
-use Rattle.convex_poly.proofs.Places.{all_places, below_and_here}
+use Rattle.spot_terms.proofs.Places.{all_places, below_and_here}
 use Rattle.propagate.specs.Children.{IsStepPoint}
 use Rattle.propagate.proofs.tests.are_step_points.Goals as goal
 

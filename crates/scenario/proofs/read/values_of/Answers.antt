@@ -1,16 +1,16 @@
 use Rattle.std.proofs.Common.{arith}
 use Rattle.spot_claims.specs.Scenario.{IsMover, IsFixed}
 use Rattle.spot_claims.specs.Paths.{at_path, statics, dynamics}
-use Rattle.scenario.proofs.Facts.{pair_length}
 use Rattle.scenario.proofs.Ids.{unique_ids}
 use Rattle.scenario.proofs.States.{states_in_range}
 use Rattle.scenario.proofs.Totals.{few_recorded, few_held}
 use Rattle.scenario.proofs.read.values_of.Goals as goal
+use Rattle.spot_terms.proofs.ListLemmas.{pairwise_length}
 
 pub returns-clause-in_range : goal.returns-clause-in_range
 returns-clause-in_range c =
-    let n = pair_length (IsMover c.args.tree.now) (at_path c.args.tree.now dynamics) c.in_ok-movers_in.field-0 c.in_ok-movers_in.ensures.are in
-    let m = pair_length (IsFixed c.args.tree.now) (at_path c.args.tree.now statics) c.in_ok-fixed_in.field-0 c.in_ok-fixed_in.ensures.are in
+    let n = pairwise_length (IsMover c.args.tree.now) (at_path c.args.tree.now dynamics) c.in_ok-movers_in.field-0 c.in_ok-movers_in.ensures.are in
+    let m = pairwise_length (IsFixed c.args.tree.now) (at_path c.args.tree.now statics) c.in_ok-fixed_in.field-0 c.in_ok-fixed_in.ensures.are in
     record {
       step_low = c.step_of.ensures.low;
       step_high = c.step_of.ensures.high;

@@ -4,8 +4,9 @@ use Rattle.spot_terms.specs.Cells.{Lane, cells}
 use Rattle.spot_terms.specs.Lists.{Lists}
 use Rattle.lanelets.specs.Beside.{IsBeside}
 use Rattle.lanelets.proofs.BuiltCells.{class_at}
-use Rattle.lanelets.proofs.Places.{place_below, same_at}
+use Rattle.lanelets.proofs.Places.{same_at}
 use Rattle.lanelets.proofs.network.Network.beside.Goals as goal
+use Rattle.spot_terms.proofs.ItemPlaces.{got_below}
 
 pub index-requires : goal.index-requires
 index-requires c =
@@ -17,7 +18,7 @@ pub list_at-requires : goal.list_at-requires
 list_at-requires c =
     let low : c.args.c < length (cells c.self.inside.built_from.value.entries) = rw c.self.view_is c.requires in
     let (list, at, lists) = class_at c.self.inside.built_from.value.entries c.self.inside.classes c.args.c c.index.result.now c.self.invariant.beside low c.index.ensures in
-    let within = place_below c.self.inside.classes.cells.items c.index.result.now list at in
+    let within = got_below c.self.inside.classes.cells.items c.index.result.now list at in
     let same = ap length c.deref.ensures.value in
     omega (arith, within, same)
 

@@ -2,11 +2,12 @@ use Rattle.std.proofs.Common.{◌≡◌, subst, sym}
 use Rattle.std.specs.Prelude.{Some, slice_get, length, ◌-◌}
 use Rattle.indexmap.proofs.MapLemmas.{OnOk-map}
 use Rattle.lanelets.specs.Listing.{IsWith}
-use Rattle.lanelets.proofs.NumberLists.{gains_same, get_includes, with_pushed}
+use Rattle.lanelets.proofs.NumberLists.{gains_same, with_pushed}
 use Rattle.lanelets.proofs.numbers.Numbers.push_once.Goals as goal
+use Rattle.spot_terms.proofs.ItemPlaces.{got_included}
 
 pub returns-then-ends_with : goal.returns-then-ends_with
-returns-then-ends_with c = gains_same (Unit {0}) c.args.n c.args.self.now (λ u. get_includes c.args.self.now _ c.args.n (c.ends_with.ensures.0 c.if-ends_with.true))
+returns-then-ends_with c = gains_same (Unit {0}) c.args.n c.args.self.now (λ u. got_included c.args.self.now _ c.args.n (c.ends_with.ensures.0 c.if-ends_with.true))
 
 pub returns : goal.returns
 returns c =

@@ -2,8 +2,8 @@ use Rattle.std.proofs.Common.{◌≡◌, ◌∙◌, ◌+◌, ◌*◌, ◌≤◌,
 use Rattle.std.specs.Prelude.{nat_abs}
 use Rattle.std.proofs.lemmas.Int.{ints}
 use Rattle.spot_terms.specs.Whole.{Within}
-use Rattle.merge_sets.proofs.BoxCells.{mul_le}
 use Rattle.merge_sets.proofs.places.BoxSlots.place.Goals as goal
+use Rattle.spot_terms.proofs.Orders.{factor_order}
 
 abbrev steps : ℤ → ℤ → ℕ
 steps z first = nat_abs (to_z w64 (of_z w64 (to_z w64 (of_z w64 z) -ℤ to_z w64 (of_z w64 first))))
@@ -15,7 +15,7 @@ steps_few : (first last z : ℤ) → nat_abs first ≤ 400_000_000 → nat_abs l
 steps_few first last z h k w = omega (arith, ints, w.low, w.high)
 
 place_fits : (a b rows : ℕ) → a ≤ 800_000_000 → b ≤ 800_000_000 → rows ≤ 1_000_000_000 → Fits w64 (a * rows + b)
-place_fits a b rows h k l = let g : a * rows ≤ 800_000_000 * rows = mul_le a 800_000_000 rows h in omega (arith, g)
+place_fits a b rows h k l = let g : a * rows ≤ 800_000_000 * rows = factor_order a 800_000_000 rows h in omega (arith, g)
 
 pub overflow_add-result : goal.overflow_add-result
 overflow_add-result c = place_fits (steps c.args.col c.args.self.now.first_col) (steps c.args.row c.args.self.now.first_row) c.args.self.now.rows

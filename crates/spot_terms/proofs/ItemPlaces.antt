@@ -1,9 +1,10 @@
 -- Items of lists at their places, where the list is changed, grows or is cut off.
-use Rattle.std.proofs.Common.{◌≡◌, ℕ, zero, suc, ◌+◌, ◌<◌, ◌⊎◌, inl, inr, arith, refl, sym, subst, List, [], ◌∷◌, ◌++◌, length, take, drop}
+use Rattle.std.proofs.Common.{◌≡◌, ℕ, zero, suc, ◌<◌, ◌⊎◌, inl, inr, arith, refl, sym, subst, List, [], ◌∷◌, ◌++◌, length, take, drop}
 use Rattle.std.specs.Prelude.{slice_get, slice_set, Some}
 use Rattle.std.proofs.lemmas.List.{append-nil, drop_all, take_all}
 use Rattle.std.proofs.lemmas.Option.{none-some, same_Some}
-use Rattle.convex_poly.proofs.Places.{compare3}
+use Rattle.spot_terms.proofs.Places.{compare3}
+use Rattle.spot_terms.specs.Lists.{Includes}
 
 -- ---- a list with one item changed
 
@@ -21,7 +22,7 @@ get_set_other (y ∷ xs) zero (suc j) x h = refl
 get_set_other (y ∷ xs) (suc i) zero x h = refl
 get_set_other (y ∷ xs) (suc i) (suc j) x h = get_set_other xs i j x (elim h [ inl l ↦ inl (omega arith) | inr l ↦ inr (omega arith) ])
 
--- the item at place j is the new one, or the one that was there
+-- the item at place j is the new one, or the one that was item_at
 pub get_set_either : {X : Type 0} (xs : List X) (i j : ℕ) (x : X) → i < length xs → ((j ≡ i) × (slice_get (slice_set xs i x) j ≡ Some x)) ⊎ (((i < j) ⊎ (j < i)) × (slice_get (slice_set xs i x) j ≡ slice_get xs j))
 get_set_either xs i j x h = compare3 j i
     (λ l. inr (inr l, get_set_other xs i j x (inr l)))
@@ -60,7 +61,7 @@ get_take (y ∷ xs) zero i x h = absurd (none-some x h)
 get_take (y ∷ xs) (suc n) zero x h = (omega arith, h)
 get_take (y ∷ xs) (suc n) (suc i) x h = let (l, e) = get_take xs n i x h in (omega (arith, l), e)
 
--- and the front has what the list has there
+-- and the front has what the list has item_at
 pub get_of_take : {X : Type 0} (xs : List X) (n i : ℕ) (x : X) → i < n → slice_get xs i ≡ Some x → slice_get (take n xs) i ≡ Some x
 get_of_take xs zero i x l h = absurd (omega (arith, l))
 get_of_take [] (suc n) i x l h = h
@@ -68,11 +69,23 @@ get_of_take (y ∷ xs) (suc n) zero x l h = h
 get_of_take (y ∷ xs) (suc n) (suc i) x l h = get_of_take xs n i x (omega (arith, l)) h
 
 -- each place below the length has an item
-pub there : {X : Type 0} (xs : List X) (i : ℕ) → i < length xs → (x : X) × (slice_get xs i ≡ Some x)
-there [] i h = absurd (omega arith)
-there (x ∷ xs) zero h = (x, refl)
-there (x ∷ xs) (suc i) h = there xs i (omega arith)
+pub item_at : {X : Type 0} (xs : List X) (i : ℕ) → i < length xs → (x : X) × (slice_get xs i ≡ Some x)
+item_at [] i h = absurd (omega arith)
+item_at (x ∷ xs) zero h = (x, refl)
+item_at (x ∷ xs) (suc i) h = item_at xs i (omega arith)
 
 -- a list whose items were all written anew
 pub written : {X : Type 0} (n : ℕ) (xs ys : List X) → n ≡ length ys → length xs ≡ length ys → take n (xs ++ drop (length xs) ys) ≡ xs
 written n xs ys e f = subst (λ (z : List _). take n (xs ++ z) ≡ xs) (sym (drop_all (length xs) ys (omega (arith, f)))) (subst (λ (z : List _). take n z ≡ xs) (sym (append-nil xs)) (take_all n xs (omega (arith, e, f))))
+
+-- ---- an item and the list
+
+pub got_included : {X : Type 0} (xs : List X) (k : ℕ) (x : X) → slice_get xs k ≡ Some x → Includes xs x
+got_included [] k x h = cc
+got_included (y ∷ ys) zero x h = let e : x ≡ y = cc in inl e
+got_included (y ∷ ys) (suc k) x h = inr (got_included ys k x h)
+
+pub got_below : {X : Type 0} (xs : List X) (k : ℕ) (x : X) → slice_get xs k ≡ Some x → k < length xs
+got_below [] k x h = cc
+got_below (y ∷ ys) zero x h = omega arith
+got_below (y ∷ ys) (suc k) x h = let b = got_below ys k x h in omega (arith, b)
