@@ -8,11 +8,11 @@ use Rattle.spot_terms.specs.Lists.{Includes}
 use Rattle.spot_terms.proofs.Mixes.{total}
 use Rattle.convex_poly.specs.Pivots.{turn_of, along, IsLeftwards, IsPivot}
 use Rattle.spot_terms.proofs.Ring.{ring, var, num, ◌⊕◌, ◌⊖◌, ◌⊗◌}
-use Rattle.spot_terms.proofs.Mixes.{mix_more, mix_to, mix_included, not_below_times}
+use Rattle.spot_terms.proofs.Mixes.{mix_more, mix_to, mix_included}
 use Rattle.convex_poly.proofs.Ways.{Meets0, Rel, turns_rel, flat_rel, meets_of, zero_part, rel_line}
 use Rattle.spot_terms.proofs.Products.{square_not_negative}
 use Rattle.spot_terms.specs.Hull.{weighted}
-use Rattle.spot_terms.proofs.Orders.{opposite_not_negative, opposite_of_negative, sum_not_negative, zero_not_negative, zero_not_positive, is_zero, positive_not_negative}
+use Rattle.spot_terms.proofs.Orders.{opposite_not_negative, opposite_of_negative, sum_not_negative, zero_not_negative, zero_not_positive, is_zero, positive_not_negative, times_not_negative}
 
 -- ---- with a pivot, 0 is outside
 
@@ -48,7 +48,7 @@ lean : (p : Pt) (ws : List ℕ) (vs : List Pt) → ((r : Pt) → Includes vs r �
 lean p [] vs all = record { turns = omega (arith, ints); rises = λ e. (λ h. absurd (omega (arith, h)), omega (arith, ints)) }
 lean p (w ∷ ws) [] all = record { turns = omega (arith, ints); rises = λ e. (λ h. absurd (omega (arith, h)), omega (arith, ints)) }
 lean p (w ∷ ws) (v ∷ vs) all = let k = lean p ws vs (λ r i. all r (inr i)) in let here = all v (inl refl) in record {
-  turns = sum_not_negative _ _ (not_below_times (pos w) (turn_of p v) (omega (arith, ints)) (turn_ok p v here)) k.turns;
+  turns = sum_not_negative _ _ (times_not_negative w (turn_of p v) (turn_ok p v here)) k.turns;
   rises = λ e. go w (turn_of p v) (along p v) (weighted (turn_of p) ws vs) (weighted (along p) ws vs) (total ws vs) here k.turns k.rises e;
 }
   where
