@@ -1,15 +1,15 @@
 -- A corner list whose edges have their directions among n ways has at most n corners.
-use Rattle.std.proofs.Common.{◌≡◌, zero, suc, ◌≤◌, arith, refl, sym, ap, ◌∙◌, subst, List, [], ◌∷◌, length, inl, inr}
+use Rattle.std.proofs.Common.{◌≡◌, suc, ◌≤◌, arith, refl, sym, ap, ◌∙◌, subst, List, [], ◌∷◌, length, inl, inr}
 use Rattle.std.proofs.lemmas.Int.{ints}
 use Rattle.std.specs.List.{AllByRecursion}
-use lib.IntN.{ℤ, pos, negsuc, ◌+ℤ◌, ◌-ℤ◌, ◌*ℤ◌}
+use lib.IntN.{ℤ, pos, ◌+ℤ◌, ◌-ℤ◌, ◌*ℤ◌}
 use lib.Signed.{◌<ℤ◌}
 use Rattle.spot_terms.specs.declared.plain.Pt.{Pt}
 use Rattle.spot_terms.specs.Hull.{edges, edges_to, IsCornerList}
 use Rattle.spot_terms.specs.Lists.{Includes, Pairwise}
 use Rattle.spot_terms.proofs.ListLemmas.{includes_itself}
 use Rattle.spot_terms.proofs.Orders.{factor_zero, product_positive}
-use Rattle.convex_poly.specs.Pivots.{turn_of, along}
+use Rattle.convex_poly.specs.Vectors.{turn_of, inner_product}
 use Rattle.convex_poly.specs.Polygons.{IsPosition}
 use Rattle.convex_poly.proofs.Chains.{positive_part}
 use Rattle.convex_poly.proofs.CornerCounts.{IsDistinct, corners_distinct, distinct_few}
@@ -19,19 +19,19 @@ use Rattle.convex_poly.proofs.Leans.{turn_by, along_by, not_none}
 -- u points where w points
 pub record PointsAlong (u w : Pt) : Type 0 where
   pub level : turn_of w u ≡ pos 0
-  pub ahead : pos 0 <ℤ along w u
+  pub ahead : pos 0 <ℤ inner_product w u
 
 -- two ways that point along one have one direction
 same_direction : (w : Pt) (e f : Pt × Pt) → PointsAlong (way_of e) w → PointsAlong (way_of f) w → HasWayOf e f
 same_direction w e f h k = record {
-  level = factor_zero (along w w) (turn_of (way_of e) (way_of f)) (not_none w (way_of e) (inr (h.level, h.ahead)))
-      (turn_by w (way_of e) (way_of f) ∙ ap (λ z. (along w (way_of e) *ℤ z) -ℤ (turn_of w (way_of e) *ℤ along w (way_of f))) k.level
-      ∙ ap (λ z. (along w (way_of e) *ℤ pos 0) -ℤ (z *ℤ along w (way_of f))) h.level ∙ both_none (along w (way_of e)) (along w (way_of f)));
-  ahead = positive_part (along (way_of e) (way_of f)) (along w w) (not_none w (way_of e) (inr (h.level, h.ahead)))
-      (subst (λ z. pos 0 <ℤ z) (turned (along w w) (along (way_of e) (way_of f)))
+  level = factor_zero (inner_product w w) (turn_of (way_of e) (way_of f)) (not_none w (way_of e) (inr (h.level, h.ahead)))
+      (turn_by w (way_of e) (way_of f) ∙ ap (λ z. (inner_product w (way_of e) *ℤ z) -ℤ (turn_of w (way_of e) *ℤ inner_product w (way_of f))) k.level
+      ∙ ap (λ z. (inner_product w (way_of e) *ℤ pos 0) -ℤ (z *ℤ inner_product w (way_of f))) h.level ∙ both_none (inner_product w (way_of e)) (inner_product w (way_of f)));
+  ahead = positive_part (inner_product (way_of e) (way_of f)) (inner_product w w) (not_none w (way_of e) (inr (h.level, h.ahead)))
+      (subst (λ z. pos 0 <ℤ z) (turned (inner_product w w) (inner_product (way_of e) (way_of f)))
       (subst (λ z. pos 0 <ℤ z) (sym (along_by w (way_of e) (way_of f)
-      ∙ ap (λ z. (along w (way_of e) *ℤ along w (way_of f)) +ℤ (z *ℤ turn_of w (way_of f))) h.level ∙ last_none (along w (way_of e) *ℤ along w (way_of f)) (turn_of w (way_of f))))
-      (product_positive (along w (way_of e)) (along w (way_of f)) h.ahead k.ahead)));
+      ∙ ap (λ z. (inner_product w (way_of e) *ℤ inner_product w (way_of f)) +ℤ (z *ℤ turn_of w (way_of f))) h.level ∙ last_none (inner_product w (way_of e) *ℤ inner_product w (way_of f)) (turn_of w (way_of f))))
+      (product_positive (inner_product w (way_of e)) (inner_product w (way_of f)) h.ahead k.ahead)));
 }
   where
     both_none : (a b : ℤ) → (a *ℤ pos 0) -ℤ (pos 0 *ℤ b) ≡ pos 0

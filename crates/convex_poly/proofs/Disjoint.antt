@@ -1,8 +1,8 @@
 -- Two hulls have a common fraction point exactly where 0 is in the hull of their differences.
-use Rattle.std.proofs.Common.{◌≡◌, ℕ, zero, suc, ◌*◌, ◌≤◌, ◌<◌, arith, refl, sym, ap, ◌∙◌, subst, List, [], ◌∷◌, ◌++◌, length, ◌⊎◌, inl, inr}
+use Rattle.std.proofs.Common.{◌≡◌, ℕ, ◌*◌, ◌≤◌, ◌<◌, arith, refl, sym, ap, ◌∙◌, subst, List, [], ◌∷◌, ◌++◌, length, ◌⊎◌, inl, inr}
 use Rattle.std.proofs.lemmas.Int.{ints}
-use lib.IntN.{ℤ, pos, negsuc, ◌-ℤ◌, ◌*ℤ◌}
-use lib.Signed.{◌≤ℤ◌, ◌<ℤ◌}
+use lib.IntN.{ℤ, pos, ◌-ℤ◌, ◌*ℤ◌}
+use lib.Signed.{◌<ℤ◌}
 use Rattle.spot_terms.specs.declared.plain.Pt.{Pt}
 use Rattle.spot_terms.specs.Lists.{Includes}
 use Rattle.spot_terms.specs.Hull.{FractionPt, InHullAt}
@@ -11,7 +11,8 @@ use Rattle.spot_terms.proofs.Hulls.{hull_mix_at, mix_hull_at}
 use Rattle.spot_terms.proofs.Mixes.{mix_to, positive_times}
 use Rattle.spot_terms.proofs.Ring.{ring, var, num, ◌⊖◌, ◌⊗◌}
 use Rattle.spot_terms.proofs.Orders.{equal_of_difference, factor_zero}
-use Rattle.convex_poly.specs.Pivots.{AreDisjoint, minus, each_minus, differences, IsLeftwards, AreLeftwards}
+use Rattle.convex_poly.specs.Pivots.{AreDisjoint, each_minus, differences, IsLeftwards, AreLeftwards}
+use Rattle.convex_poly.specs.Vectors.{minus}
 use Rattle.convex_poly.proofs.Ways.{Meets0}
 use Rattle.convex_poly.proofs.Pivots.{pivot_apart, pivot_or_meets}
 use Rattle.convex_poly.proofs.Differences.{to_differences, from_differences}

@@ -11,7 +11,7 @@ use Rattle.spot_terms.proofs.ListLemmas.{all_included}
 use Rattle.spot_terms.proofs.Products.{square_not_negative}
 use Rattle.spot_terms.proofs.Ring.{ring, Exp, var, num, ◌⊕◌, ◌⊖◌, ◌⊗◌}
 use Rattle.spot_terms.proofs.Orders.{sum_not_negative, zero_not_positive, zero_times, product_not_negative, product_positive}
-use Rattle.convex_poly.specs.Pivots.{minus, turn_of, along}
+use Rattle.convex_poly.specs.Vectors.{minus, turn_of, inner_product}
 use Rattle.convex_poly.specs.Turns.{cross}
 use Rattle.convex_poly.proofs.Corners.{IsBeside, edge_left}
 use Rattle.convex_poly.proofs.Crosses.{cross_exp}
@@ -33,7 +33,7 @@ way_of e = minus e.1 e.0
 -- the two ways have one direction
 pub record HasWayOf (e f : Pt × Pt) : Type 0 where
   pub level : turn_of (way_of e) (way_of f) ≡ pos 0
-  pub ahead : pos 0 <ℤ along (way_of e) (way_of f)
+  pub ahead : pos 0 <ℤ inner_product (way_of e) (way_of f)
 
 start_in : (first : Pt) (vs : List Pt) (e : Pt × Pt) → Includes (edges_to first vs) e → Includes vs e.0
 start_in first [] e i = absurd i
@@ -71,7 +71,7 @@ abbrev along_exp : Exp → Exp → Exp → Exp → Exp
 along_exp ax ay bx by = (ax ⊗ bx) ⊕ (ay ⊗ by)
 
 -- the two areas between two edges
-areas : (a b c d : Pt) → along (minus b a) (minus b a) *ℤ cross c d a ≡ (pos 0 -ℤ (along (minus b a) (minus d c) *ℤ cross a b c)) -ℤ (turn_of (minus b a) (minus d c) *ℤ along (minus b a) (minus a c))
+areas : (a b c d : Pt) → inner_product (minus b a) (minus b a) *ℤ cross c d a ≡ (pos 0 -ℤ (inner_product (minus b a) (minus d c) *ℤ cross a b c)) -ℤ (turn_of (minus b a) (minus d c) *ℤ inner_product (minus b a) (minus a c))
 areas a b c d =
     let ux : Exp = var 2 ⊖ var 0 in
     let uy : Exp = var 3 ⊖ var 1 in
@@ -90,15 +90,15 @@ next_area a b c d =
 module _ (a b c d : Pt) (way : HasWayOf (a, b) (c, d)) (first : pos 0 ≤ℤ cross a b c) (second : pos 0 ≤ℤ cross c d a) where
   flat : cross a b c ≡ pos 0
   flat = by_lt_z (pos 0) (cross a b c)
-      (λ up. absurd (clash (along (minus b a) (minus b a) *ℤ cross c d a) (along (minus b a) (minus d c) *ℤ cross a b c) (turn_of (minus b a) (minus d c) *ℤ along (minus b a) (minus a c))
-      (areas a b c d) (product_not_negative (along (minus b a) (minus b a)) (cross c d a) squares second) (product_positive (along (minus b a) (minus d c)) (cross a b c) way.ahead up)
-      (ap (λ z. z *ℤ along (minus b a) (minus a c)) way.level ∙ zero_times (along (minus b a) (minus a c)))))
+      (λ up. absurd (clash (inner_product (minus b a) (minus b a) *ℤ cross c d a) (inner_product (minus b a) (minus d c) *ℤ cross a b c) (turn_of (minus b a) (minus d c) *ℤ inner_product (minus b a) (minus a c))
+      (areas a b c d) (product_not_negative (inner_product (minus b a) (minus b a)) (cross c d a) squares second) (product_positive (inner_product (minus b a) (minus d c)) (cross a b c) way.ahead up)
+      (ap (λ z. z *ℤ inner_product (minus b a) (minus a c)) way.level ∙ zero_times (inner_product (minus b a) (minus a c)))))
       (λ down. pin (cross a b c) first down)
     where
       pin : (z : ℤ) → pos 0 ≤ℤ z → z ≤ℤ pos 0 → z ≡ pos 0
       pin z h k = omega (arith, ints)
 
-      squares : pos 0 ≤ℤ along (minus b a) (minus b a)
+      squares : pos 0 ≤ℤ inner_product (minus b a) (minus b a)
       squares = sum_not_negative ((b.x -ℤ a.x) *ℤ (b.x -ℤ a.x)) ((b.y -ℤ a.y) *ℤ (b.y -ℤ a.y)) (square_not_negative (b.x -ℤ a.x)) (square_not_negative (b.y -ℤ a.y))
 
       clash : (p q r : ℤ) → p ≡ (pos 0 -ℤ q) -ℤ r → pos 0 ≤ℤ p → pos 0 <ℤ q → r ≡ pos 0 → ⊥
@@ -118,19 +118,19 @@ module _ (a b c d : Pt) (way : HasWayOf (a, b) (c, d)) (first : pos 0 ≤ℤ cro
 
   -- the second edge neither turns back nor stands still
   not_back : c ≡ b → (d ≡ a) ⊎ (d ≡ b) → ⊥
-  not_back e (inl f) = back (along (minus b a) (minus b a)) (along (minus b a) (minus d c)) (ap (λ (z : Pt). along (minus b a) (minus z c)) f ∙ ap (λ (z : Pt). along (minus b a) (minus a z)) e ∙ turned) squares way.ahead
+  not_back e (inl f) = back (inner_product (minus b a) (minus b a)) (inner_product (minus b a) (minus d c)) (ap (λ (z : Pt). inner_product (minus b a) (minus z c)) f ∙ ap (λ (z : Pt). inner_product (minus b a) (minus a z)) e ∙ turned) squares way.ahead
     where
-      turned : along (minus b a) (minus a b) ≡ pos 0 -ℤ along (minus b a) (minus b a)
+      turned : inner_product (minus b a) (minus a b) ≡ pos 0 -ℤ inner_product (minus b a) (minus b a)
       turned = ring (a.x ∷ a.y ∷ b.x ∷ b.y ∷ []) (along_exp (var 2 ⊖ var 0) (var 3 ⊖ var 1) (var 0 ⊖ var 2) (var 1 ⊖ var 3)) (num (pos 0) ⊖ along_exp (var 2 ⊖ var 0) (var 3 ⊖ var 1) (var 2 ⊖ var 0) (var 3 ⊖ var 1)) refl
 
-      squares : pos 0 ≤ℤ along (minus b a) (minus b a)
+      squares : pos 0 ≤ℤ inner_product (minus b a) (minus b a)
       squares = sum_not_negative ((b.x -ℤ a.x) *ℤ (b.x -ℤ a.x)) ((b.y -ℤ a.y) *ℤ (b.y -ℤ a.y)) (square_not_negative (b.x -ℤ a.x)) (square_not_negative (b.y -ℤ a.y))
 
       back : (s p : ℤ) → p ≡ pos 0 -ℤ s → pos 0 ≤ℤ s → pos 0 <ℤ p → ⊥
       back s p e h k = omega (arith, ints)
-  not_back e (inr f) = zero_not_positive (along (minus b a) (minus d c)) (ap (λ (z : Pt). along (minus b a) (minus z c)) f ∙ ap (λ (z : Pt). along (minus b a) (minus b z)) e ∙ still) way.ahead
+  not_back e (inr f) = zero_not_positive (inner_product (minus b a) (minus d c)) (ap (λ (z : Pt). inner_product (minus b a) (minus z c)) f ∙ ap (λ (z : Pt). inner_product (minus b a) (minus b z)) e ∙ still) way.ahead
     where
-      still : along (minus b a) (minus b b) ≡ pos 0
+      still : inner_product (minus b a) (minus b b) ≡ pos 0
       still = ring (a.x ∷ a.y ∷ b.x ∷ b.y ∷ []) (along_exp (var 2 ⊖ var 0) (var 3 ⊖ var 1) (var 2 ⊖ var 2) (var 3 ⊖ var 3)) (num (pos 0)) refl
 
   same_start : IsBeside c (a, b) → IsBeside d (a, b) → c ≡ a

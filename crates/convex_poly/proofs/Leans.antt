@@ -1,5 +1,5 @@
 -- The way that lies furthest to the right, of ways that are all on one side of a line.
-use Rattle.std.proofs.Common.{◌≡◌, ℕ, zero, suc, ◌+◌, ◌≤◌, ◌<◌, arith, refl, sym, ap, ◌∙◌, subst, List, [], ◌∷◌, length, get_or, ◌⊎◌, inl, inr}
+use Rattle.std.proofs.Common.{◌≡◌, ℕ, zero, suc, ◌+◌, ◌≤◌, ◌<◌, arith, refl, sym, ap, ◌∙◌, subst, List, [], ◌∷◌, length, get_or, inl, inr}
 use Rattle.std.proofs.lemmas.Int.{ints, by_lt_z}
 use lib.IntN.{ℤ, pos, negsuc, ◌+ℤ◌, ◌-ℤ◌, ◌*ℤ◌}
 use lib.Signed.{◌≤ℤ◌, ◌<ℤ◌}
@@ -7,7 +7,8 @@ use Rattle.spot_terms.specs.declared.plain.Pt.{Pt}
 use Rattle.spot_terms.specs.Lists.{Includes}
 use Rattle.spot_terms.proofs.Products.{square_not_negative}
 use Rattle.spot_terms.proofs.Ring.{ring, Exp, var, num, ◌⊕◌, ◌⊖◌, ◌⊗◌}
-use Rattle.convex_poly.specs.Pivots.{minus, turn_of, along, IsLeftwards, AreLeftwards, LeansTo}
+use Rattle.convex_poly.specs.Pivots.{IsLeftwards, AreLeftwards, LeansTo}
+use Rattle.convex_poly.specs.Vectors.{minus, turn_of, inner_product}
 use Rattle.spot_terms.proofs.ListLemmas.{includes_at}
 use Rattle.spot_terms.proofs.Orders.{below_or_here, equal_of_difference, negative_clash, not_positive_of_opposite, opposite_not_negative, opposite_of_negative, opposite_times, opposites_times, sum_not_negative, times_opposite, times_zero, zero_not_negative, zero_not_positive, zero_times, product_not_negative, factor_not_negative, positive_not_negative, product_positive}
 use Rattle.spot_terms.proofs.Places.{same_index, place_of}
@@ -29,23 +30,23 @@ four_turns v c r s =
     ((turn_exp (var 0) (var 1) (var 4) (var 5) ⊗ turn_exp (var 2) (var 3) (var 6) (var 7)) ⊕ (turn_exp (var 0) (var 1) (var 6) (var 7) ⊗ turn_exp (var 4) (var 5) (var 2) (var 3))) refl
 
 -- the turn of two ways by what they make with a third
-pub turn_by : (v c r : Pt) → along v v *ℤ turn_of c r ≡ (along v c *ℤ turn_of v r) -ℤ (turn_of v c *ℤ along v r)
+pub turn_by : (v c r : Pt) → inner_product v v *ℤ turn_of c r ≡ (inner_product v c *ℤ turn_of v r) -ℤ (turn_of v c *ℤ inner_product v r)
 turn_by v c r =
     ring (v.x ∷ v.y ∷ c.x ∷ c.y ∷ r.x ∷ r.y ∷ [])
     (along_exp (var 0) (var 1) (var 0) (var 1) ⊗ turn_exp (var 2) (var 3) (var 4) (var 5))
     ((along_exp (var 0) (var 1) (var 2) (var 3) ⊗ turn_exp (var 0) (var 1) (var 4) (var 5)) ⊖ (turn_exp (var 0) (var 1) (var 2) (var 3) ⊗ along_exp (var 0) (var 1) (var 4) (var 5))) refl
 
-pub along_by : (v c r : Pt) → along v v *ℤ along c r ≡ (along v c *ℤ along v r) +ℤ (turn_of v c *ℤ turn_of v r)
+pub along_by : (v c r : Pt) → inner_product v v *ℤ inner_product c r ≡ (inner_product v c *ℤ inner_product v r) +ℤ (turn_of v c *ℤ turn_of v r)
 along_by v c r =
     ring (v.x ∷ v.y ∷ c.x ∷ c.y ∷ r.x ∷ r.y ∷ [])
     (along_exp (var 0) (var 1) (var 0) (var 1) ⊗ along_exp (var 2) (var 3) (var 4) (var 5))
     ((along_exp (var 0) (var 1) (var 2) (var 3) ⊗ along_exp (var 0) (var 1) (var 4) (var 5)) ⊕ (turn_exp (var 0) (var 1) (var 2) (var 3) ⊗ turn_exp (var 0) (var 1) (var 4) (var 5))) refl
 
 -- a way with something left of it isn't 0
-pub not_none : (v c : Pt) → IsLeftwards v c → pos 0 <ℤ along v v
-not_none v c l = by_lt_z (pos 0) (along v v) (λ h. h) (λ h. absurd (elim l [
+pub not_none : (v c : Pt) → IsLeftwards v c → pos 0 <ℤ inner_product v v
+not_none v c l = by_lt_z (pos 0) (inner_product v v) (λ h. h) (λ h. absurd (elim l [
   | inl t ↦ zero_not_positive (turn_of v c) (turn_flat v c (flat v.x v.y h) (flat v.y v.x (turned (v.x *ℤ v.x) (v.y *ℤ v.y) h))) t
-  | inr t ↦ zero_not_positive (along v c) (along_flat v c (flat v.x v.y h) (flat v.y v.x (turned (v.x *ℤ v.x) (v.y *ℤ v.y) h))) t.1
+  | inr t ↦ zero_not_positive (inner_product v c) (along_flat v c (flat v.x v.y h) (flat v.y v.x (turned (v.x *ℤ v.x) (v.y *ℤ v.y) h))) t.1
 ]))
   where
     turned : (z w : ℤ) → (z +ℤ w) ≤ℤ pos 0 → (w +ℤ z) ≤ℤ pos 0
@@ -65,7 +66,7 @@ not_none v c l = by_lt_z (pos 0) (along v v) (λ h. h) (λ h. absurd (elim l [
     turn_flat : (v c : Pt) → v.x ≡ pos 0 → v.y ≡ pos 0 → turn_of v c ≡ pos 0
     turn_flat v c e f = ap (λ z. (z *ℤ c.y) -ℤ (v.y *ℤ c.x)) e ∙ ap (λ z. (pos 0 *ℤ c.y) -ℤ (z *ℤ c.x)) f ∙ none c.y c.x
 
-    along_flat : (v c : Pt) → v.x ≡ pos 0 → v.y ≡ pos 0 → along v c ≡ pos 0
+    along_flat : (v c : Pt) → v.x ≡ pos 0 → v.y ≡ pos 0 → inner_product v c ≡ pos 0
     along_flat v c e f = ap (λ z. (z *ℤ c.x) +ℤ (v.y *ℤ c.y)) e ∙ ap (λ z. (pos 0 *ℤ c.x) +ℤ (z *ℤ c.y)) f ∙ none_sum c.x c.y
 
 turn_back : (c r : Pt) → turn_of r c ≡ pos 0 -ℤ turn_of c r
@@ -81,8 +82,8 @@ further_right v c r s (inl h) lr ls right keep =
     flipped : (z w : ℤ) → w ≡ pos 0 -ℤ z → z <ℤ pos 0 → pos 0 ≤ℤ w
     flipped z w e h = omega (arith, ints)
 further_right v c r s (inr h) lr ls right keep =
-    absurd (negative_clash (turn_of c r) right (factor_not_negative (along v v) (turn_of c r) (not_none v c (inr h)) (subst (λ z. pos 0 ≤ℤ z) (sym (turn_by v c r))
-    (apart (along v c *ℤ turn_of v r) (turn_of v c) (along v r) h.0 (product_not_negative (along v c) (turn_of v r) (positive_not_negative (along v c) h.1) (leftwards_turn v r lr))))))
+    absurd (negative_clash (turn_of c r) right (factor_not_negative (inner_product v v) (turn_of c r) (not_none v c (inr h)) (subst (λ z. pos 0 ≤ℤ z) (sym (turn_by v c r))
+    (apart (inner_product v c *ℤ turn_of v r) (turn_of v c) (inner_product v r) h.0 (product_not_negative (inner_product v c) (turn_of v r) (positive_not_negative (inner_product v c) h.1) (leftwards_turn v r lr))))))
   where
     lose : (p a : ℤ) → pos 0 ≤ℤ p → pos 0 ≤ℤ (p -ℤ (pos 0 *ℤ a))
     lose p a h = omega (arith, ints)
@@ -92,17 +93,17 @@ further_right v c r s (inr h) lr ls right keep =
 
 -- ---- what isn't right of c is left of it, or in its direction
 
-module _ (v c s : Pt) (lc : IsLeftwards v c) (ls : IsLeftwards v s) (flat : turn_of c s ≡ pos 0) (low : along c s ≤ℤ pos 0) where
+module _ (v c s : Pt) (lc : IsLeftwards v c) (ls : IsLeftwards v s) (flat : turn_of c s ≡ pos 0) (low : inner_product c s ≤ℤ pos 0) where
   -- of v: its turns and products with s by those with c
-  turns_same : along v c *ℤ turn_of v s ≡ turn_of v c *ℤ along v s
-  turns_same = both (along v c *ℤ turn_of v s) (turn_of v c *ℤ along v s) (along v v) (turn_of c s) (turn_by v c s) flat
+  turns_same : inner_product v c *ℤ turn_of v s ≡ turn_of v c *ℤ inner_product v s
+  turns_same = both (inner_product v c *ℤ turn_of v s) (turn_of v c *ℤ inner_product v s) (inner_product v v) (turn_of c s) (turn_by v c s) flat
     where
       both : (p q k t : ℤ) → k *ℤ t ≡ p -ℤ q → t ≡ pos 0 → p ≡ q
       both p q k t e f = equal_of_difference p q (sym (times_zero k) ∙ ap (λ z. k *ℤ z) (sym f) ∙ e)
 
   -- the products are at most 0 together
-  sum_low : ((along v c *ℤ along v s) +ℤ (turn_of v c *ℤ turn_of v s)) ≤ℤ pos 0
-  sum_low = subst (λ z. z ≤ℤ pos 0) (along_by v c s) (lowered (along v v) (along c s) (not_none v c lc) low)
+  sum_low : ((inner_product v c *ℤ inner_product v s) +ℤ (turn_of v c *ℤ turn_of v s)) ≤ℤ pos 0
+  sum_low = subst (λ z. z ≤ℤ pos 0) (along_by v c s) (lowered (inner_product v v) (inner_product c s) (not_none v c lc) low)
     where
       lowered : (k t : ℤ) → pos 0 <ℤ k → t ≤ℤ pos 0 → (k *ℤ t) ≤ℤ pos 0
       lowered k t h g = not_positive_of_opposite (k *ℤ t) (subst (λ z. pos 0 ≤ℤ z) (ring (k ∷ t ∷ []) (var 0 ⊗ (num (pos 0) ⊖ var 1)) (num (pos 0) ⊖ (var 0 ⊗ var 1)) refl) (product_not_negative k (pos 0 -ℤ t) (positive_not_negative k h) (opposite_not_negative t g)))
@@ -123,24 +124,24 @@ module _ (v c s : Pt) (lc : IsLeftwards v c) (ls : IsLeftwards v s) (flat : turn
   same_zero p q e h f = omega (arith, ints)
 
   against : IsLeftwards v c → IsLeftwards v s → ⊥
-  against (inl tc) (inl ts) = by_lt_z (along v c) (pos 0) (λ neg. both_neg neg) (λ ok. above_other (along v c *ℤ along v s) (turn_of v c *ℤ turn_of v s) (rest ok) (product_positive (turn_of v c) (turn_of v s) tc ts) sum_low)
+  against (inl tc) (inl ts) = by_lt_z (inner_product v c) (pos 0) (λ neg. both_neg neg) (λ ok. above_other (inner_product v c *ℤ inner_product v s) (turn_of v c *ℤ turn_of v s) (rest ok) (product_positive (turn_of v c) (turn_of v s) tc ts) sum_low)
     where
-      -- along v c and along v s have one sign, since the turns have
-      rest : pos 0 ≤ℤ along v c → pos 0 ≤ℤ (along v c *ℤ along v s)
-      rest ok = product_not_negative (along v c) (along v s) ok (factor_not_negative (turn_of v c) (along v s) tc (subst (λ z. pos 0 ≤ℤ z) turns_same (product_not_negative (along v c) (turn_of v s) ok (positive_not_negative (turn_of v s) ts))))
+      -- inner_product v c and inner_product v s have one sign, since the turns have
+      rest : pos 0 ≤ℤ inner_product v c → pos 0 ≤ℤ (inner_product v c *ℤ inner_product v s)
+      rest ok = product_not_negative (inner_product v c) (inner_product v s) ok (factor_not_negative (turn_of v c) (inner_product v s) tc (subst (λ z. pos 0 ≤ℤ z) turns_same (product_not_negative (inner_product v c) (turn_of v s) ok (positive_not_negative (turn_of v s) ts))))
 
-      both_neg : along v c <ℤ pos 0 → ⊥
+      both_neg : inner_product v c <ℤ pos 0 → ⊥
       both_neg neg =
-          let s_neg : pos 0 ≤ℤ (pos 0 -ℤ along v s) = factor_not_negative (turn_of v c) (pos 0 -ℤ along v s) tc
-          (subst (λ z. pos 0 ≤ℤ z) (opposite_times (along v c) (turn_of v s) ∙ ap (λ z. pos 0 -ℤ z) turns_same ∙ sym (times_opposite (turn_of v c) (along v s))) (product_not_negative (pos 0 -ℤ along v c) (turn_of v s) (opposite_of_negative (along v c) neg) (positive_not_negative (turn_of v s) ts))) in
-          above_other (along v c *ℤ along v s) (turn_of v c *ℤ turn_of v s) (subst (λ z. pos 0 ≤ℤ z) (opposites_times (along v c) (along v s)) (product_not_negative (pos 0 -ℤ along v c) (pos 0 -ℤ along v s) (opposite_of_negative (along v c) neg) s_neg)) (product_positive (turn_of v c) (turn_of v s) tc ts) sum_low
-  against (inl tc) (inr hs) = same_zero (turn_of v c *ℤ along v s) (along v c *ℤ turn_of v s) (sym turns_same) (product_positive (turn_of v c) (along v s) tc hs.1) (none_right (along v c) (turn_of v s) hs.0)
-  against (inr hc) (inl ts) = same_zero (along v c *ℤ turn_of v s) (turn_of v c *ℤ along v s) turns_same (product_positive (along v c) (turn_of v s) hc.1 ts) (none_left (turn_of v c) (along v s) hc.0)
-  against (inr hc) (inr hs) = above (along v c *ℤ along v s) (turn_of v c *ℤ turn_of v s) (product_positive (along v c) (along v s) hc.1 hs.1) (zero_not_negative (turn_of v c *ℤ turn_of v s) (none_left (turn_of v c) (turn_of v s) hc.0)) sum_low
+          let s_neg : pos 0 ≤ℤ (pos 0 -ℤ inner_product v s) = factor_not_negative (turn_of v c) (pos 0 -ℤ inner_product v s) tc
+          (subst (λ z. pos 0 ≤ℤ z) (opposite_times (inner_product v c) (turn_of v s) ∙ ap (λ z. pos 0 -ℤ z) turns_same ∙ sym (times_opposite (turn_of v c) (inner_product v s))) (product_not_negative (pos 0 -ℤ inner_product v c) (turn_of v s) (opposite_of_negative (inner_product v c) neg) (positive_not_negative (turn_of v s) ts))) in
+          above_other (inner_product v c *ℤ inner_product v s) (turn_of v c *ℤ turn_of v s) (subst (λ z. pos 0 ≤ℤ z) (opposites_times (inner_product v c) (inner_product v s)) (product_not_negative (pos 0 -ℤ inner_product v c) (pos 0 -ℤ inner_product v s) (opposite_of_negative (inner_product v c) neg) s_neg)) (product_positive (turn_of v c) (turn_of v s) tc ts) sum_low
+  against (inl tc) (inr hs) = same_zero (turn_of v c *ℤ inner_product v s) (inner_product v c *ℤ turn_of v s) (sym turns_same) (product_positive (turn_of v c) (inner_product v s) tc hs.1) (none_right (inner_product v c) (turn_of v s) hs.0)
+  against (inr hc) (inl ts) = same_zero (inner_product v c *ℤ turn_of v s) (turn_of v c *ℤ inner_product v s) turns_same (product_positive (inner_product v c) (turn_of v s) hc.1 ts) (none_left (turn_of v c) (inner_product v s) hc.0)
+  against (inr hc) (inr hs) = above (inner_product v c *ℤ inner_product v s) (turn_of v c *ℤ turn_of v s) (product_positive (inner_product v c) (inner_product v s) hc.1 hs.1) (zero_not_negative (turn_of v c *ℤ turn_of v s) (none_left (turn_of v c) (turn_of v s) hc.0)) sum_low
 
 pub leans_on : (v c s : Pt) → IsLeftwards v c → IsLeftwards v s → pos 0 ≤ℤ turn_of c s → IsLeftwards c s
 leans_on v c s lc ls h = by_lt_z (pos 0) (turn_of c s) (λ k. inl k)
-    (λ k. let e : turn_of c s ≡ pos 0 = pin (turn_of c s) h k in inr (e, by_lt_z (pos 0) (along c s) (λ l. l) (λ l. absurd (against v c s lc ls e l lc ls))))
+    (λ k. let e : turn_of c s ≡ pos 0 = pin (turn_of c s) h k in inr (e, by_lt_z (pos 0) (inner_product c s) (λ l. l) (λ l. absurd (against v c s lc ls e l lc ls))))
   where
     pin : (z : ℤ) → pos 0 ≤ℤ z → z ≤ℤ pos 0 → z ≡ pos 0
     pin z h k = omega (arith, ints)

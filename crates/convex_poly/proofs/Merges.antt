@@ -14,7 +14,7 @@ use Rattle.spot_terms.proofs.Members.{in_map, in_flat_map}
 use Rattle.spot_terms.proofs.Ring.{ring, Exp, var, num, ◌⊕◌, ◌⊖◌, ◌⊗◌}
 use Rattle.spot_terms.proofs.Orders.{below_trans, opposite_of_negative, sum_not_negative, sum_swap, product_not_negative, difference_positive, below_or_at_least, positive_not_negative}
 use Rattle.convex_poly.specs.Chains.{key, Rising, Toward}
-use Rattle.convex_poly.specs.Pivots.{minus, turn_of}
+use Rattle.convex_poly.specs.Vectors.{minus, turn_of}
 use Rattle.convex_poly.specs.Sums.{GoesFirst, IsSide, IsSumPath}
 use Rattle.convex_poly.specs.Turns.{cross}
 use Rattle.convex_poly.proofs.ChainSteps.{toward_more}

@@ -6,7 +6,8 @@ use lib.Signed.{◌≤ℤ◌, ◌<ℤ◌}
 use Rattle.spot_terms.specs.declared.plain.Pt.{Pt}
 use Rattle.spot_terms.specs.Lists.{Includes}
 use Rattle.spot_terms.proofs.Mixes.{total}
-use Rattle.convex_poly.specs.Pivots.{turn_of, along, IsLeftwards, IsPivot}
+use Rattle.convex_poly.specs.Pivots.{IsLeftwards, IsPivot}
+use Rattle.convex_poly.specs.Vectors.{turn_of, inner_product}
 use Rattle.spot_terms.proofs.Ring.{ring, var, num, ◌⊕◌, ◌⊖◌, ◌⊗◌}
 use Rattle.spot_terms.proofs.Mixes.{mix_more, mix_to, mix_included}
 use Rattle.convex_poly.proofs.Ways.{Meets0, Rel, turns_rel, flat_rel, meets_of, zero_part, rel_line}
@@ -26,11 +27,11 @@ turn_weighted p (w ∷ ws) (v ∷ vs) =
     ((var 0 ⊗ ((var 1 ⊗ var 4) ⊖ (var 2 ⊗ var 3))) ⊕ ((var 1 ⊗ var 6) ⊖ (var 2 ⊗ var 5)))
     ((var 1 ⊗ ((var 0 ⊗ var 4) ⊕ var 6)) ⊖ (var 2 ⊗ ((var 0 ⊗ var 3) ⊕ var 5))) refl
 
-along_weighted : (p : Pt) (ws : List ℕ) (vs : List Pt) → weighted (along p) ws vs ≡ (p.x *ℤ weighted (λ v. v.x) ws vs) +ℤ (p.y *ℤ weighted (λ v. v.y) ws vs)
+along_weighted : (p : Pt) (ws : List ℕ) (vs : List Pt) → weighted (inner_product p) ws vs ≡ (p.x *ℤ weighted (λ v. v.x) ws vs) +ℤ (p.y *ℤ weighted (λ v. v.y) ws vs)
 along_weighted p [] vs = omega (arith, ints)
 along_weighted p (w ∷ ws) [] = omega (arith, ints)
 along_weighted p (w ∷ ws) (v ∷ vs) =
-    ap (λ z. (pos w *ℤ along p v) +ℤ z) (along_weighted p ws vs)
+    ap (λ z. (pos w *ℤ inner_product p v) +ℤ z) (along_weighted p ws vs)
     ∙ ring (pos w ∷ p.x ∷ p.y ∷ v.x ∷ v.y ∷ weighted (λ v. v.x) ws vs ∷ weighted (λ v. v.y) ws vs ∷ [])
     ((var 0 ⊗ ((var 1 ⊗ var 3) ⊕ (var 2 ⊗ var 4))) ⊕ ((var 1 ⊗ var 5) ⊕ (var 2 ⊗ var 6)))
     ((var 1 ⊗ ((var 0 ⊗ var 3) ⊕ var 5)) ⊕ (var 2 ⊗ ((var 0 ⊗ var 4) ⊕ var 6))) refl
@@ -38,7 +39,7 @@ along_weighted p (w ∷ ws) (v ∷ vs) =
 -- turns not below 0; where they sum to 0, the inner products sum to more than 0, unless all weights are 0
 record Leaning (p : Pt) (ws : List ℕ) (vs : List Pt) : Type 0 where
   turns : pos 0 ≤ℤ weighted (turn_of p) ws vs
-  rises : weighted (turn_of p) ws vs ≡ pos 0 → (0 < total ws vs → pos 0 <ℤ weighted (along p) ws vs) × (pos 0 ≤ℤ weighted (along p) ws vs)
+  rises : weighted (turn_of p) ws vs ≡ pos 0 → (0 < total ws vs → pos 0 <ℤ weighted (inner_product p) ws vs) × (pos 0 ≤ℤ weighted (inner_product p) ws vs)
 
 turn_ok : (p r : Pt) → IsLeftwards p r → pos 0 ≤ℤ turn_of p r
 turn_ok p r (inl h) = positive_not_negative (turn_of p r) h
@@ -49,7 +50,7 @@ lean p [] vs all = record { turns = omega (arith, ints); rises = λ e. (λ h. ab
 lean p (w ∷ ws) [] all = record { turns = omega (arith, ints); rises = λ e. (λ h. absurd (omega (arith, h)), omega (arith, ints)) }
 lean p (w ∷ ws) (v ∷ vs) all = let k = lean p ws vs (λ r i. all r (inr i)) in let here = all v (inl refl) in record {
   turns = sum_not_negative _ _ (times_not_negative w (turn_of p v) (turn_ok p v here)) k.turns;
-  rises = λ e. go w (turn_of p v) (along p v) (weighted (turn_of p) ws vs) (weighted (along p) ws vs) (total ws vs) here k.turns k.rises e;
+  rises = λ e. go w (turn_of p v) (inner_product p v) (weighted (turn_of p) ws vs) (weighted (inner_product p) ws vs) (total ws vs) here k.turns k.rises e;
 }
   where
     go : (w : ℕ) (t a T A : ℤ) (n : ℕ) → (pos 0 <ℤ t) ⊎ ((t ≡ pos 0) × (pos 0 <ℤ a)) → pos 0 ≤ℤ T → (T ≡ pos 0 → (0 < n → pos 0 <ℤ A) × (pos 0 ≤ℤ A)) → (pos w *ℤ t) +ℤ T ≡ pos 0
@@ -67,8 +68,8 @@ pub pivot_apart : (vs : List Pt) (p : Pt) → ((r : Pt) → Includes vs r → Is
 pivot_apart vs p all m =
     let k = lean p m.mix.weights vs all in
     let e : weighted (turn_of p) m.mix.weights vs ≡ pos 0 = turn_weighted p m.mix.weights vs ∙ ap (λ z. (p.x *ℤ z) -ℤ (p.y *ℤ weighted (λ v. v.x) m.mix.weights vs)) m.mix.at_y ∙ ap (λ z. (p.x *ℤ pos 0) -ℤ (p.y *ℤ z)) m.mix.at_x ∙ none (p.x) (p.y) in
-    let f : weighted (along p) m.mix.weights vs ≡ pos 0 = along_weighted p m.mix.weights vs ∙ ap (λ z. (p.x *ℤ z) +ℤ (p.y *ℤ weighted (λ v. v.y) m.mix.weights vs)) m.mix.at_x ∙ ap (λ z. (p.x *ℤ pos 0) +ℤ (p.y *ℤ z)) m.mix.at_y ∙ some (p.x) (p.y) in
-    zero_not_positive (weighted (along p) m.mix.weights vs) f ((k.rises e).0 (positive (total m.mix.weights vs) m.n m.mix.at_w m.some))
+    let f : weighted (inner_product p) m.mix.weights vs ≡ pos 0 = along_weighted p m.mix.weights vs ∙ ap (λ z. (p.x *ℤ z) +ℤ (p.y *ℤ weighted (λ v. v.y) m.mix.weights vs)) m.mix.at_x ∙ ap (λ z. (p.x *ℤ pos 0) +ℤ (p.y *ℤ z)) m.mix.at_y ∙ some (p.x) (p.y) in
+    zero_not_positive (weighted (inner_product p) m.mix.weights vs) f ((k.rises e).0 (positive (total m.mix.weights vs) m.n m.mix.at_w m.some))
   where
     none : (x y : ℤ) → (x *ℤ pos 0) -ℤ (y *ℤ pos 0) ≡ pos 0
     none x y = omega (arith, ints)
@@ -82,9 +83,9 @@ pivot_apart vs p all m =
 -- ---- without one, 0 is inside
 
 -- two points that point against each other
-against : (vs : List Pt) (p r : Pt) → Includes vs p → Includes vs r → turn_of p r ≡ pos 0 → along p r ≤ℤ pos 0 → Meets0 vs
+against : (vs : List Pt) (p r : Pt) → Includes vs p → Includes vs r → turn_of p r ≡ pos 0 → inner_product p r ≤ℤ pos 0 → Meets0 vs
 against vs p r ip ir z h =
-    elim (is_zero (along p p)) [
+    elim (is_zero (inner_product p p)) [
       | inl o ↦ record { n = 1; some = omega arith; mix = mix_to vs _ _ _ _ _ _ refl (zero_part p.x p.y o) (zero_part p.y p.x (other (p.x *ℤ p.x) (p.y *ℤ p.y) o)) (mix_included vs p ip) }
       | inr nz ↦ go nz
     ]
@@ -92,8 +93,8 @@ against vs p r ip ir z h =
     other : (s t : ℤ) → s +ℤ t ≡ pos 0 → t +ℤ s ≡ pos 0
     other s t h = omega (arith, ints)
 
-    flipped : Rel p r r (pos 0 -ℤ along p r) (pos 0 -ℤ (pos 0 -ℤ along p p)) (pos 0 -ℤ pos 0)
-    flipped = let e = flat_rel p r r z in record { x = rel_line (along p r) (pos 0 -ℤ along p p) (pos 0) p.x r.x r.x e.x; y = rel_line (along p r) (pos 0 -ℤ along p p) (pos 0) p.y r.y r.y e.y }
+    flipped : Rel p r r (pos 0 -ℤ inner_product p r) (pos 0 -ℤ (pos 0 -ℤ inner_product p p)) (pos 0 -ℤ pos 0)
+    flipped = let e = flat_rel p r r z in record { x = rel_line (inner_product p r) (pos 0 -ℤ inner_product p p) (pos 0) p.x r.x r.x e.x; y = rel_line (inner_product p r) (pos 0 -ℤ inner_product p p) (pos 0) p.y r.y r.y e.y }
 
     signs : (s t : ℤ) → s ≤ℤ pos 0 → pos 0 ≤ℤ t → (t ≡ pos 0 → ⊥) → pos 0 <ℤ (((pos 0 -ℤ s) +ℤ (pos 0 -ℤ (pos 0 -ℤ t))) +ℤ (pos 0 -ℤ pos 0))
     signs s t h k nz = by_lt_z (pos 0) t (λ g. omega (arith, ints)) (λ g. absurd (nz (omega (arith, ints))))
@@ -101,9 +102,9 @@ against vs p r ip ir z h =
     twice : (s : ℤ) → pos 0 ≤ℤ s → pos 0 ≤ℤ (pos 0 -ℤ (pos 0 -ℤ s))
     twice s h = omega (arith, ints)
 
-    go : (along p p ≡ pos 0 → ⊥) → Meets0 vs
-    go nz = let k : pos 0 ≤ℤ along p p = sum_not_negative (p.x *ℤ p.x) (p.y *ℤ p.y) (square_not_negative p.x) (square_not_negative p.y) in
-        meets_of vs p r r (pos 0 -ℤ along p r) (pos 0 -ℤ (pos 0 -ℤ along p p)) (pos 0 -ℤ pos 0) ip ir ir flipped (opposite_not_negative (along p r) h) (twice (along p p) k) (omega (arith, ints)) (signs (along p r) (along p p) h k nz)
+    go : (inner_product p p ≡ pos 0 → ⊥) → Meets0 vs
+    go nz = let k : pos 0 ≤ℤ inner_product p p = sum_not_negative (p.x *ℤ p.x) (p.y *ℤ p.y) (square_not_negative p.x) (square_not_negative p.y) in
+        meets_of vs p r r (pos 0 -ℤ inner_product p r) (pos 0 -ℤ (pos 0 -ℤ inner_product p p)) (pos 0 -ℤ pos 0) ip ir ir flipped (opposite_not_negative (inner_product p r) h) (twice (inner_product p p) k) (omega (arith, ints)) (signs (inner_product p r) (inner_product p p) h k nz)
 
 turn_back : (p r : Pt) → turn_of r p ≡ pos 0 -ℤ turn_of p r
 turn_back p r = ring (p.x ∷ p.y ∷ r.x ∷ r.y ∷ []) ((var 2 ⊗ var 1) ⊖ (var 3 ⊗ var 0)) (num (pos 0) ⊖ ((var 0 ⊗ var 3) ⊖ (var 1 ⊗ var 2))) refl
@@ -125,14 +126,14 @@ round vs p r s ip ir is1 h k m =
 
 -- where r is: leftwards of p, against it, or right of it
 record NotLeft (p r : Pt) : Type 0 where
-  way : (turn_of p r <ℤ pos 0) ⊎ ((turn_of p r ≡ pos 0) × (along p r ≤ℤ pos 0))
+  way : (turn_of p r <ℤ pos 0) ⊎ ((turn_of p r ≡ pos 0) × (inner_product p r ≤ℤ pos 0))
 
 place : (p r : Pt) → IsLeftwards p r ⊎ NotLeft p r
 place p r =
     by_lt_z (pos 0) (turn_of p r) (λ h. inl (inl h))
     (λ h. by_lt_z (turn_of p r) (pos 0) (λ k. inr (record { way = inl k }))
     (λ k. let e : turn_of p r ≡ pos 0 = pin (turn_of p r) h k in
-    by_lt_z (pos 0) (along p r) (λ m. inl (inr (e, m))) (λ m. inr (record { way = inr (e, m) }))))
+    by_lt_z (pos 0) (inner_product p r) (λ m. inl (inr (e, m))) (λ m. inr (record { way = inr (e, m) }))))
   where
     pin : (z : ℤ) → z ≤ℤ pos 0 → pos 0 ≤ℤ z → z ≡ pos 0
     pin z h k = omega (arith, ints)

@@ -1,10 +1,9 @@
 -- The two sides of a corner list: the corners up to the one that comes last, and those from it back to the first.
 use Rattle.std.proofs.Common.{◌≡◌, ℕ, zero, suc, ◌+◌, ◌-◌, ◌≤◌, ◌<◌, arith, refl, sym, ap, ◌∙◌, subst, List, [], ◌∷◌, ◌++◌, length, get_or, take, drop, length-append, get_or-take, ◌⊎◌, inl, inr}
 use Rattle.std.proofs.Math.ListN.{get_or-append}
-use Rattle.std.proofs.lemmas.Int.{ints}
 use Rattle.std.proofs.lemmas.List.{get_or-append-add, get_or-drop, length-drop, length-take-le}
 use Rattle.std.specs.List.{AllByRecursion}
-use lib.IntN.{ℤ, pos, ◌-ℤ◌}
+use lib.IntN.{pos, ◌-ℤ◌}
 use lib.Signed.{◌≤ℤ◌, ◌<ℤ◌}
 use Rattle.spot_terms.specs.declared.plain.Pt.{Pt}
 use Rattle.spot_terms.specs.Hull.{Before, IsCornerList}

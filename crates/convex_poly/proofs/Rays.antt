@@ -9,7 +9,7 @@ use Rattle.spot_terms.specs.Lists.{Includes}
 use Rattle.spot_terms.proofs.Ring.{ring, var, num, ◌⊕◌, ◌⊖◌, ◌⊗◌}
 use Rattle.spot_terms.proofs.Mixes.{total, mix_more, mix_to, mix_included}
 use Rattle.spot_terms.proofs.Orders.{opposite_positive, opposite_times, opposites_times, zero_of_opposite, product_not_negative, is_zero, positive_not_negative, product_positive}
-use Rattle.convex_poly.specs.Pivots.{turn_of, along}
+use Rattle.convex_poly.specs.Vectors.{turn_of, inner_product}
 use Rattle.convex_poly.proofs.Ways.{Meets0, Rel, meets_of, rel_line, zero_part, turns_rel, flat_rel}
 
 -- (X, Y) / W, moved towards 0, is on the segment between two points of the list
@@ -221,8 +221,8 @@ three : (vs : List Pt) (u v r : Pt) (a b c K W X Y : ℤ) → Includes vs u → 
 three vs u v r a b c K W X Y iu iv ir s =
     elim (is_zero (turn_of u v)) [
       | inr nz ↦ from_rel vs u v r (turn_of v r) (turn_of r u) (turn_of u v) a b c K W X Y iu iv ir (turns_rel u v r) s (λ h k m. nz m)
-      | inl z ↦ elim (is_zero (along u u)) [
-        | inr nz ↦ from_rel vs u v r (along u v) (pos 0 -ℤ along u u) (pos 0) a b c K W X Y iu iv ir (flat_rel u v r z) s (λ h k m. nz (zero_of_opposite (along u u) k))
+      | inl z ↦ elim (is_zero (inner_product u u)) [
+        | inr nz ↦ from_rel vs u v r (inner_product u v) (pos 0 -ℤ inner_product u u) (pos 0) a b c K W X Y iu iv ir (flat_rel u v r z) s (λ h k m. nz (zero_of_opposite (inner_product u u) k))
         | inl o ↦ inr (record { n = 1; some = omega arith; mix = mix_to vs _ _ _ _ _ _ refl (zero_part u.x u.y o) (zero_part u.y u.x (other (u.x *ℤ u.x) (u.y *ℤ u.y) o)) (mix_included vs u iu) })
       ]
     ]

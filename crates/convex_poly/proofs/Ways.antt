@@ -1,5 +1,5 @@
 -- Relations of three ways, and 0 in the hull of some points.
-use Rattle.std.proofs.Common.{◌≡◌, ℕ, zero, suc, ◌+◌, ◌*◌, ◌<◌, arith, refl, ap, ◌∙◌, List, [], ◌∷◌, ◌⊎◌, inl, inr}
+use Rattle.std.proofs.Common.{◌≡◌, ℕ, zero, suc, ◌+◌, ◌*◌, ◌<◌, arith, refl, ap, ◌∙◌, List, [], ◌∷◌}
 use Rattle.std.proofs.lemmas.Int.{ints}
 use Rattle.std.specs.Prelude.{nat_abs}
 use lib.IntN.{ℤ, pos, negsuc, ◌+ℤ◌, ◌-ℤ◌, ◌*ℤ◌}
@@ -7,7 +7,7 @@ use lib.Signed.{◌≤ℤ◌, ◌<ℤ◌}
 use Rattle.spot_terms.specs.declared.plain.Pt.{Pt}
 use Rattle.spot_terms.specs.Lists.{Includes}
 use Rattle.spot_terms.proofs.Products.{square_not_negative}
-use Rattle.convex_poly.specs.Pivots.{turn_of, along}
+use Rattle.convex_poly.specs.Vectors.{turn_of, inner_product}
 use Rattle.spot_terms.proofs.Ring.{ring, var, num, ◌⊕◌, ◌⊖◌, ◌⊗◌}
 use Rattle.spot_terms.proofs.Mixes.{Mix, mix_add, mix_scale, mix_to, mix_included}
 use Rattle.spot_terms.proofs.Orders.{times_zero}
@@ -53,7 +53,7 @@ turns_rel u v r = record {
       (((((var 2 ⊗ var 5) ⊖ (var 3 ⊗ var 4)) ⊗ var 1) ⊕ (((var 4 ⊗ var 1) ⊖ (var 5 ⊗ var 0)) ⊗ var 3)) ⊕ (((var 0 ⊗ var 3) ⊖ (var 1 ⊗ var 2)) ⊗ var 5)) (num (pos 0)) refl;
 }
 
-pub flat_rel : (u v r : Pt) → turn_of u v ≡ pos 0 → Rel u v r (along u v) (pos 0 -ℤ along u u) (pos 0)
+pub flat_rel : (u v r : Pt) → turn_of u v ≡ pos 0 → Rel u v r (inner_product u v) (pos 0 -ℤ inner_product u u) (pos 0)
 flat_rel u v r h = record {
   x = ring (u.x ∷ u.y ∷ v.x ∷ v.y ∷ r.x ∷ [])
       ((((((var 0 ⊗ var 2) ⊕ (var 1 ⊗ var 3)) ⊗ var 0) ⊕ ((num (pos 0) ⊖ ((var 0 ⊗ var 0) ⊕ (var 1 ⊗ var 1))) ⊗ var 2)) ⊕ (num (pos 0) ⊗ var 4)))

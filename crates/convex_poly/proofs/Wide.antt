@@ -33,9 +33,9 @@ minus_of r s x y h k e f = omega (arith, ints)
 pub plus_of : (r s x y : ℤ) → nat_abs r ≤ 10000000000000000000000000000 → nat_abs s ≤ 10000000000000000000000000000 → r ≡ x → s ≡ y → to_z w128 (of_z w128 (to_z w128 (of_z w128 r) +ℤ to_z w128 (of_z w128 s))) ≡ x +ℤ y
 plus_of r s x y h k e f = omega (arith, ints)
 
--- what a call that is handed two coordinates says of their difference
-pub way_of : (r a b : ℤ) → nat_abs a ≤ 40000000000000 → nat_abs b ≤ 40000000000000 → r ≡ to_z w64 (of_z w64 b) -ℤ to_z w64 (of_z w64 a) → r ≡ b -ℤ a
-way_of r a b h k e = omega (arith, ints)
+-- what a call that is handed two coordinates says of the offset
+pub offset_of : (r a b : ℤ) → nat_abs a ≤ 40000000000000 → nat_abs b ≤ 40000000000000 → r ≡ to_z w64 (of_z w64 b) -ℤ to_z w64 (of_z w64 a) → r ≡ b -ℤ a
+offset_of r a b h k e = omega (arith, ints)
 
 -- the test that a number is not below 0, as the code makes it
 pub test_not_below : (r : ℤ) → mag r < 2 ^ 127 → pos 0 ≤ℤ r → IsTrue (le_z (pos 0) (to_z w128 (of_z w128 r)))
@@ -119,5 +119,5 @@ pub minus_size : (r s : ℤ) → nat_abs r ≤ 10000000000000000000000000000 →
 minus_size r s h k = omega (arith, ints)
 
 -- a way between two coordinates, as the code reads it back
-pub way_back : (r a b : ℤ) → nat_abs a ≤ 40000000000000 → nat_abs b ≤ 40000000000000 → r ≡ to_z w64 (of_z w64 b) -ℤ to_z w64 (of_z w64 a) → to_z w64 (of_z w64 r) ≡ b -ℤ a
-way_back r a b h k e = omega (arith, ints)
+pub offset_back : (r a b : ℤ) → nat_abs a ≤ 40000000000000 → nat_abs b ≤ 40000000000000 → r ≡ to_z w64 (of_z w64 b) -ℤ to_z w64 (of_z w64 a) → to_z w64 (of_z w64 r) ≡ b -ℤ a
+offset_back r a b h k e = omega (arith, ints)

@@ -1,17 +1,13 @@
--- Differences of points, and what tells that 0 is outside of their hull.
-use Rattle.std.specs.Prelude.{◌≡◌, ◌⊎◌, ◌≤◌, List, [], ◌∷◌, ◌++◌, ℤ, pos, ◌+ℤ◌, ◌-ℤ◌, ◌*ℤ◌, ◌<ℤ◌, ◌≤ℤ◌}
+-- Differences of the points of two lists, and what tells that 0 is outside of their hull.
+use Rattle.std.specs.Prelude.{◌≡◌, ◌⊎◌, ◌≤◌, List, [], ◌∷◌, ◌++◌, pos, ◌<ℤ◌, ◌≤ℤ◌}
 use Rattle.spot_terms.specs.declared.plain.Pt.{Pt}
 use Rattle.spot_terms.specs.Hull.{FractionPt, InHullAt}
 use Rattle.spot_terms.specs.Lists.{Includes}
-use Rattle.spot_terms.specs.Whole.{SizeAtMost}
+use Rattle.convex_poly.specs.Vectors.{inner_product, minus, turn_of}
 
 -- no fraction point is in both hulls
 abbrev pub AreDisjoint : List Pt → List Pt → Type 0
 AreDisjoint a b = (p : FractionPt) → 1 ≤ p.d → InHullAt a p → InHullAt b p → ⊥
-
--- the way from q to p
-abbrev pub minus : Pt → Pt → Pt
-minus p q = record { x = p.x -ℤ q.x; y = p.y -ℤ q.y }
 
 abbrev pub each_minus : Pt → List Pt → List Pt
 each_minus p [] = []
@@ -22,16 +18,9 @@ abbrev pub differences : List Pt → List Pt → List Pt
 differences [] qs = []
 differences (p ∷ ps) qs = each_minus p qs ++ differences ps qs
 
--- positive where the way from u to v turns left, seen from 0
-abbrev pub turn_of : Pt → Pt → ℤ
-turn_of u v = (u.x *ℤ v.y) -ℤ (u.y *ℤ v.x)
-
-abbrev pub along : Pt → Pt → ℤ
-along u v = (u.x *ℤ v.x) +ℤ (u.y *ℤ v.y)
-
 -- r is left of p, or in its direction
 abbrev pub IsLeftwards : Pt → Pt → Type 0
-IsLeftwards p r = (pos 0 <ℤ turn_of p r) ⊎ ((turn_of p r ≡ pos 0) × (pos 0 <ℤ along p r))
+IsLeftwards p r = (pos 0 <ℤ turn_of p r) ⊎ ((turn_of p r ≡ pos 0) × (pos 0 <ℤ inner_product p r))
 
 -- all ways from a point of b to p are left of v, or in its direction
 abbrev pub AreLeftwards : Pt → Pt → List Pt → Type 0
@@ -41,11 +30,6 @@ AreLeftwards v p b = (q : Pt) → Includes b q → IsLeftwards v (minus p q)
 pub record IsPivot (vs : List Pt) (p : Pt) : Type 0 where
   pub one : Includes vs p
   pub all : (r : Pt) → Includes vs r → IsLeftwards p r
-
--- both coordinates are at most 10^14 in size
-pub record IsWay (v : Pt) : Type 0 where
-  pub x : SizeAtMost 100_000_000_000_000 v.x
-  pub y : SizeAtMost 100_000_000_000_000 v.y
 
 -- Of ways that are left of a pivot v, or in its direction, `to` lies no further left than `from`, and no further left
 -- than each of the others. The ways that aren't right of `from` aren't right of `to`.

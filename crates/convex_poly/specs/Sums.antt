@@ -6,7 +6,7 @@ use Rattle.spot_terms.specs.Hull.{Before}
 use Rattle.spot_terms.specs.LanePolygons.{add_pt, sums}
 use Rattle.spot_terms.specs.Lists.{Includes}
 use Rattle.convex_poly.specs.Chains.{key, IsSideOf, Rising, Toward}
-use Rattle.convex_poly.specs.Pivots.{minus, turn_of}
+use Rattle.convex_poly.specs.Vectors.{minus, turn_of}
 use Rattle.convex_poly.specs.Turns.{cross}
 
 -- the points come later and later up to place k, and earlier and earlier from there

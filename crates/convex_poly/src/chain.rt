@@ -6,7 +6,7 @@ ghost use Rattle.convex_poly.specs.Chains.{HasDent, IsChain, KeepsFront, Rising,
 ghost use Rattle.convex_poly.specs.Polygons.{IsPosition};
 ghost use Rattle.convex_poly.specs.Turns.{TurnsLeft};
 
-use crate::turns::cross;
+use crate::plane::cross;
 use arrayvec::ArrayVec;
 use spot_terms::Pt;
 

@@ -5,7 +5,7 @@ ghost use Rattle.spot_terms.specs.Hull.{InHull};
 ghost use Rattle.convex_poly.specs.Polygons.{IsPolygon, IsPosition};
 ghost use Rattle.convex_poly.specs.Turns.{EdgesLeft, ClosingLeft, IsOn};
 
-use crate::turns::{cross, inner};
+use crate::plane::{cross, inner};
 use spot_terms::Pt;
 
 /// Whether `p` is in the hull of the corners.

@@ -4,6 +4,7 @@ ghost use Rattle.std.specs.Prelude.{List};
 ghost use Rattle.convex_poly.specs.Polygons.{IsPolygon};
 ghost use Rattle.spot_terms.specs.declared.plain.Pt.{Pt as Point};
 
+use crate::boxes::BoundingBox;
 use crate::hulls::put_corners;
 use crate::segments::put_ends;
 use crate::sums::put_sum_corners;
@@ -31,7 +32,7 @@ impl Poly {
     ghost use Rattle.spot_terms.specs.Hull.{InHull, IsSupport};
     ghost use Rattle.spot_terms.specs.Whole.{SizeAtMost};
     ghost use Rattle.convex_poly.specs.Pivots.{AreDisjoint};
-    ghost use Rattle.convex_poly.specs.Polygons.{IsPosition};
+    ghost use Rattle.convex_poly.specs.Boxes.{IsBoxOf};
     ghost use Rattle.convex_poly.specs.Runs.{IsInRows, IsRun};
 
     /// The corners in order.
@@ -55,10 +56,17 @@ impl Poly {
 
     /// Whether the point lies in the polygon: whether it is a mean of the corners with whole weights.
     pub fn contains(&self, p: Pt) -> bool
-        requires { IsPosition p }
         ensures { IsTrue result ↔ InHull self.now p }
     {
-        crate::inside::is_inside(self.corners(), &p)
+        let corners = self.corners();
+        is_position(p) && crate::inside::is_inside(corners, &p)
+    }
+
+    /// The least box along the axes that holds the polygon.
+    pub fn bounding_box(&self) -> BoundingBox
+        ensures { IsBoxOf self.now result }
+    {
+        BoundingBox::of(self.corners())
     }
 
     /// The support in the direction (`nx`, `ny`): the greatest nx·x + ny·y of the points of the polygon, which a corner
@@ -89,11 +97,18 @@ impl Poly {
     }
 }
 
-ghost use Rattle.std.specs.Prelude.{◌<◌, ◌≤◌, ◌+◌, [], ◌∷◌, length};
+ghost use Rattle.std.specs.Prelude.{◌↔◌, ◌<◌, ◌≤◌, ◌+◌, [], ◌∷◌, length, IsTrue};
 ghost use Rattle.std.specs.List.{AllByRecursion};
 ghost use Rattle.spot_terms.specs.Hull.{IsHullOf};
 ghost use Rattle.spot_terms.specs.LanePolygons.{sums};
 ghost use Rattle.convex_poly.specs.Polygons.{IsPosition, IsSummand};
+
+/// Whether the coordinates of a point are at most 4·10^13 in size, as those of all points of polygons are.
+fn is_position(p: Pt) -> bool
+    ensures { IsTrue result ↔ IsPosition p }
+{
+    p.x.unsigned_abs() <= 40_000_000_000_000 && p.y.unsigned_abs() <= 40_000_000_000_000
+}
 
 /// The polygon of the hull of 1 to 64 points, where the hull has at most 20 corners.
 pub fn hull(points: &[Pt]) -> Poly

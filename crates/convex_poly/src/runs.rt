@@ -4,7 +4,7 @@ ghost use Rattle.spot_terms.specs.Whole.{SizeAtMost, Within};
 ghost use Rattle.convex_poly.specs.Polygons.{IsPolygon, IsPosition};
 ghost use Rattle.convex_poly.specs.Runs.{AreLeft, IsBetween, IsBoxed, IsInRows, IsQuotient, IsRun, IsSpan, IsStart};
 
-use crate::turns::{times, way};
+use crate::plane::{times, offset};
 use spot_num::div_floor;
 use spot_terms::Pt;
 
@@ -65,7 +65,7 @@ fn narrowed(span: (i64, i64), a: &Pt, b: &Pt, y0: i64, y1: i64) -> Option<(i64, 
     ensures { IsRun (λ x. Within span.0 span.1 x × AreLeft a.now b.now y0 y1 x) result }
 {
     let room = room_beside(a, b, y0).min(room_beside(a, b, y1));
-    let rise = way(a.y, b.y);
+    let rise = offset(a.y, b.y);
     if rise > 0 {
         lowered(span, a.x, room, rise)
     } else if rise < 0 {
@@ -85,7 +85,7 @@ fn room_beside(a: &Pt, b: &Pt, y: i64) -> i128
     ensures value { result ≡ (b.now.x -ℤ a.now.x) *ℤ (y -ℤ a.now.y) }
     ensures within { SizeAtMost 10_000_000_000_000_000_000_000_000_000 result }
 {
-    times(way(a.x, b.x), way(a.y, y))
+    times(offset(a.x, b.x), offset(a.y, y))
 }
 
 /// The part of the span with rise · (x - from) at most `room`. It divides only where that is less than the span.
@@ -136,7 +136,7 @@ fn has_room(rise: i64, from: i64, to: i64, room: i128) -> bool
     requires rise { SizeAtMost 100_000_000_000_000 rise }
     ensures { IsTrue result ↔ ((rise *ℤ (to -ℤ from)) ≤ℤ room) }
 {
-    times(rise, way(from, to)) <= room
+    times(rise, offset(from, to)) <= room
 }
 
 /// room / rise, rounded down.

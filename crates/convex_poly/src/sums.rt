@@ -10,7 +10,7 @@ ghost use Rattle.convex_poly.specs.Sums.{GoesFirst, IsPart, IsSumPath, IsSumSide
 use crate::chain::put_chain;
 use crate::hulls::{push_all, put_joined};
 use crate::segments::is_before;
-use crate::turns::{difference, turn};
+use crate::plane::{minus, turn};
 use arrayvec::ArrayVec;
 use spot_terms::Pt;
 
@@ -115,7 +115,7 @@ fn goes_first(a: &[Pt], b: &[Pt], i: usize, j: usize) -> bool
 {
     i + 1 < a.len()
         && (j + 1 >= b.len()
-            || turn(&difference(&a[i + 1], &a[i]), &difference(&b[j + 1], &b[j])) >= 0)
+            || turn(&minus(&a[i + 1], &a[i]), &minus(&b[j + 1], &b[j])) >= 0)
 }
 
 /// The sum of two points.

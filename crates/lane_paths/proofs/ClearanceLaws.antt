@@ -7,7 +7,7 @@ use Rattle.spot_terms.specs.declared.plain.Pt.{Pt}
 use Rattle.spot_terms.proofs.Products.{square_not_negative}
 use Rattle.spot_terms.proofs.Ring.{ring, Exp, var, num, ◌⊕◌, ◌⊖◌, ◌⊗◌}
 use Rattle.spot_terms.proofs.Orders.{sum_not_negative, sum_swap, product_not_negative, factor_not_negative, below_or_at_least, at_most_of_difference, difference_not_negative}
-use Rattle.convex_poly.specs.Pivots.{turn_of, along}
+use Rattle.convex_poly.specs.Vectors.{turn_of, inner_product}
 use Rattle.lane_paths.specs.Clearances.{norm, StaysOff, IsClearance}
 use Rattle.lane_paths.proofs.Signs.{add_ok}
 
@@ -36,24 +36,24 @@ off_swap u v n o a b ha hb =
 -- ---- the clearance where an end is nearest
 
 -- a u + b v where the nearest point is u
-near_first : (u v : Pt) (a b : ℤ) → pos 0 ≤ℤ a → pos 0 ≤ℤ b → along u u ≤ℤ along u v
-    → pos 0 ≤ℤ (norm ((a *ℤ u.x) +ℤ (b *ℤ v.x)) ((a *ℤ u.y) +ℤ (b *ℤ v.y)) -ℤ (((a +ℤ b) *ℤ (a +ℤ b)) *ℤ along u u))
+near_first : (u v : Pt) (a b : ℤ) → pos 0 ≤ℤ a → pos 0 ≤ℤ b → inner_product u u ≤ℤ inner_product u v
+    → pos 0 ≤ℤ (norm ((a *ℤ u.x) +ℤ (b *ℤ v.x)) ((a *ℤ u.y) +ℤ (b *ℤ v.y)) -ℤ (((a +ℤ b) *ℤ (a +ℤ b)) *ℤ inner_product u u))
 near_first u v a b ha hb h =
-    let e : norm ((a *ℤ u.x) +ℤ (b *ℤ v.x)) ((a *ℤ u.y) +ℤ (b *ℤ v.y)) -ℤ (((a +ℤ b) *ℤ (a +ℤ b)) *ℤ along u u)
-    ≡ ((((a +ℤ a) *ℤ b) +ℤ ((b +ℤ b) *ℤ b)) *ℤ (along u v -ℤ along u u)) +ℤ ((b *ℤ b) *ℤ norm (u.x -ℤ v.x) (u.y -ℤ v.y))
+    let e : norm ((a *ℤ u.x) +ℤ (b *ℤ v.x)) ((a *ℤ u.y) +ℤ (b *ℤ v.y)) -ℤ (((a +ℤ b) *ℤ (a +ℤ b)) *ℤ inner_product u u)
+    ≡ ((((a +ℤ a) *ℤ b) +ℤ ((b +ℤ b) *ℤ b)) *ℤ (inner_product u v -ℤ inner_product u u)) +ℤ ((b *ℤ b) *ℤ norm (u.x -ℤ v.x) (u.y -ℤ v.y))
     = ring (a ∷ b ∷ u.x ∷ u.y ∷ v.x ∷ v.y ∷ [])
     (((((var 0 ⊗ var 2) ⊕ (var 1 ⊗ var 4)) ⊗ ((var 0 ⊗ var 2) ⊕ (var 1 ⊗ var 4))) ⊕ (((var 0 ⊗ var 3) ⊕ (var 1 ⊗ var 5)) ⊗ ((var 0 ⊗ var 3) ⊕ (var 1 ⊗ var 5))))
     ⊖ (((var 0 ⊕ var 1) ⊗ (var 0 ⊕ var 1)) ⊗ ((var 2 ⊗ var 2) ⊕ (var 3 ⊗ var 3))))
     (((((var 0 ⊕ var 0) ⊗ var 1) ⊕ ((var 1 ⊕ var 1) ⊗ var 1)) ⊗ (((var 2 ⊗ var 4) ⊕ (var 3 ⊗ var 5)) ⊖ ((var 2 ⊗ var 2) ⊕ (var 3 ⊗ var 3))))
     ⊕ ((var 1 ⊗ var 1) ⊗ (((var 2 ⊖ var 4) ⊗ (var 2 ⊖ var 4)) ⊕ ((var 3 ⊖ var 5) ⊗ (var 3 ⊖ var 5))))) refl in
     subst (λ z. pos 0 ≤ℤ z) (sym e) (sum_not_negative _ _
-    (product_not_negative _ (along u v -ℤ along u u) (sum_not_negative _ _ (product_not_negative (a +ℤ a) b (sum_not_negative a a ha ha) hb) (product_not_negative (b +ℤ b) b (sum_not_negative b b hb hb) hb)) (difference_not_negative _ _ h))
+    (product_not_negative _ (inner_product u v -ℤ inner_product u u) (sum_not_negative _ _ (product_not_negative (a +ℤ a) b (sum_not_negative a a ha ha) hb) (product_not_negative (b +ℤ b) b (sum_not_negative b b hb hb) hb)) (difference_not_negative _ _ h))
     (product_not_negative (b *ℤ b) _ (square_not_negative b) (sum_not_negative _ _ (square_not_negative (u.x -ℤ v.x)) (square_not_negative (u.y -ℤ v.y)))))
 
 -- where u is nearest, the clearance is u · u
-pub clearance_first : (u v : Pt) (n : ℕ) → pos n ≡ along u u → along u u ≤ℤ along u v → IsClearance u v n
+pub clearance_first : (u v : Pt) (n : ℕ) → pos n ≡ inner_product u u → inner_product u u ≤ℤ inner_product u v → IsClearance u v n
 clearance_first u v n e h = record {
-  holds = λ a b ha hb. subst (λ z. (z *ℤ ((a +ℤ b) *ℤ (a +ℤ b))) ≤ℤ norm ((a *ℤ u.x) +ℤ (b *ℤ v.x)) ((a *ℤ u.y) +ℤ (b *ℤ v.y))) (sym e) (turned ((a +ℤ b) *ℤ (a +ℤ b)) (along u u) _ (near_first u v a b ha hb h));
+  holds = λ a b ha hb. subst (λ z. (z *ℤ ((a +ℤ b) *ℤ (a +ℤ b))) ≤ℤ norm ((a *ℤ u.x) +ℤ (b *ℤ v.x)) ((a *ℤ u.y) +ℤ (b *ℤ v.y))) (sym e) (turned ((a +ℤ b) *ℤ (a +ℤ b)) (inner_product u u) _ (near_first u v a b ha hb h));
   greatest = λ q o. at_end q (o (pos 1) (pos 0) (omega (arith, ints)) (omega (arith, ints)));
 }
   where
@@ -72,8 +72,8 @@ clearance_first u v n e h = record {
         plain q n h = omega (arith, ints)
 
 -- so it stays off by what is at most u · u
-pub off_first : (u v : Pt) (n : ℕ) → pos n ≤ℤ along u u → along u u ≤ℤ along u v → StaysOff u v n
-off_first u v n low h = let (m, e, l) = natural n (along u u) low in off_down u v m n (clearance_first u v m e h).holds l
+pub off_first : (u v : Pt) (n : ℕ) → pos n ≤ℤ inner_product u u → inner_product u u ≤ℤ inner_product u v → StaysOff u v n
+off_first u v n low h = let (m, e, l) = natural n (inner_product u u) low in off_down u v m n (clearance_first u v m e h).holds l
   where
     natural : (n : ℕ) (z : ℤ) → pos n ≤ℤ z → (m : ℕ) × (pos m ≡ z) × (n ≤ m)
     natural n (pos m) k = (m, refl, omega (arith, ints, k))
@@ -83,7 +83,7 @@ off_first u v n low h = let (m, e, l) = natural n (along u u) low in off_down u 
 
 -- the squared length of the segment
 abbrev pub gauge : Pt → Pt → ℤ
-gauge u v = (along u u -ℤ along u v) +ℤ (along v v -ℤ along u v)
+gauge u v = (inner_product u u -ℤ inner_product u v) +ℤ (inner_product v v -ℤ inner_product u v)
 
 -- the squared length times the squared distance of a u + b v: a square above its least
 inside_off : (u v : Pt) (a b : ℤ) → gauge u v *ℤ norm ((a *ℤ u.x) +ℤ (b *ℤ v.x)) ((a *ℤ u.y) +ℤ (b *ℤ v.y))
@@ -100,7 +100,7 @@ inside_off u v a b =
     ring (a ∷ b ∷ u.x ∷ u.y ∷ v.x ∷ v.y ∷ []) (((uu ⊖ uv) ⊕ (vv ⊖ uv)) ⊗ ((P ⊗ P) ⊕ (Q ⊗ Q))) ((((var 0 ⊕ var 1) ⊗ (var 0 ⊕ var 1)) ⊗ (C ⊗ C)) ⊕ (D ⊗ D)) refl
 
 -- the point nearest to 0 reaches it
-inside_norm : (u v : Pt) → norm (((along v v -ℤ along u v) *ℤ u.x) +ℤ ((along u u -ℤ along u v) *ℤ v.x)) (((along v v -ℤ along u v) *ℤ u.y) +ℤ ((along u u -ℤ along u v) *ℤ v.y))
+inside_norm : (u v : Pt) → norm (((inner_product v v -ℤ inner_product u v) *ℤ u.x) +ℤ ((inner_product u u -ℤ inner_product u v) *ℤ v.x)) (((inner_product v v -ℤ inner_product u v) *ℤ u.y) +ℤ ((inner_product u u -ℤ inner_product u v) *ℤ v.y))
     ≡ gauge u v *ℤ (turn_of u v *ℤ turn_of u v)
 inside_norm u v =
     let uu : Exp = (var 0 ⊗ var 0) ⊕ (var 1 ⊗ var 1) in
@@ -124,10 +124,10 @@ quotient_high m e n h k = elim (below_or_at_least (m / e) n) [ inl g ↦ absurd 
     next a b h = omega arith
 
 -- where no end is nearest, the clearance is the squared turn by the squared length
-pub clearance_inside : (u v : Pt) (m e : ℕ) → 0 < e → pos m ≡ turn_of u v *ℤ turn_of u v → pos e ≡ gauge u v → along u v ≤ℤ along u u → along u v ≤ℤ along v v → IsClearance u v (m / e)
+pub clearance_inside : (u v : Pt) (m e : ℕ) → 0 < e → pos m ≡ turn_of u v *ℤ turn_of u v → pos e ≡ gauge u v → inner_product u v ≤ℤ inner_product u u → inner_product u v ≤ℤ inner_product v v → IsClearance u v (m / e)
 clearance_inside u v m e he hm hg hu hv = record {
   holds = λ a b ha hb. stays a b;
-  greatest = λ q o. quotient_high m e q he (most q (o (along v v -ℤ along u v) (along u u -ℤ along u v) (difference_not_negative _ _ hv) (difference_not_negative _ _ hu)));
+  greatest = λ q o. quotient_high m e q he (most q (o (inner_product v v -ℤ inner_product u v) (inner_product u u -ℤ inner_product u v) (difference_not_negative _ _ hv) (difference_not_negative _ _ hu)));
 }
   where
     low : e * (m / e) ≤ m
@@ -155,10 +155,10 @@ clearance_inside u v m e he hm hg hu hv = record {
             join : (s p d q : ℤ) → s ≡ p +ℤ d → pos 0 ≤ℤ d → pos 0 ≤ℤ (p -ℤ q) → pos 0 ≤ℤ (s -ℤ q)
             join s p d q e h k = omega (arith, ints)
 
-    most : (q : ℕ) → (pos q *ℤ (((along v v -ℤ along u v) +ℤ (along u u -ℤ along u v)) *ℤ ((along v v -ℤ along u v) +ℤ (along u u -ℤ along u v)))) ≤ℤ norm (((along v v -ℤ along u v) *ℤ u.x) +ℤ ((along u u -ℤ along u v) *ℤ v.x)) (((along v v -ℤ along u v) *ℤ u.y) +ℤ ((along u u -ℤ along u v) *ℤ v.y)) → e * q ≤ m
+    most : (q : ℕ) → (pos q *ℤ (((inner_product v v -ℤ inner_product u v) +ℤ (inner_product u u -ℤ inner_product u v)) *ℤ ((inner_product v v -ℤ inner_product u v) +ℤ (inner_product u u -ℤ inner_product u v)))) ≤ℤ norm (((inner_product v v -ℤ inner_product u v) *ℤ u.x) +ℤ ((inner_product u u -ℤ inner_product u v) *ℤ v.x)) (((inner_product v v -ℤ inner_product u v) *ℤ u.y) +ℤ ((inner_product u u -ℤ inner_product u v) *ℤ v.y)) → e * q ≤ m
     most q o =
         plain e m q (at_most_of_difference _ _ (subst (λ z. pos 0 ≤ℤ (z -ℤ (pos e *ℤ pos q))) (sym hm) (subst (λ z. pos 0 ≤ℤ ((turn_of u v *ℤ turn_of u v) -ℤ (z *ℤ pos q))) (sym hg)
-        (cut (pos q) (gauge u v) (turn_of u v *ℤ turn_of u v) ((along v v -ℤ along u v) +ℤ (along u u -ℤ along u v)) _ (sum_swap (along v v -ℤ along u v) (along u u -ℤ along u v)) (inside_norm u v) (subst (λ z. pos 0 <ℤ z) hg (omega (arith, ints))) o))))
+        (cut (pos q) (gauge u v) (turn_of u v *ℤ turn_of u v) ((inner_product v v -ℤ inner_product u v) +ℤ (inner_product u u -ℤ inner_product u v)) _ (sum_swap (inner_product v v -ℤ inner_product u v) (inner_product u u -ℤ inner_product u v)) (inside_norm u v) (subst (λ z. pos 0 <ℤ z) hg (omega (arith, ints))) o))))
       where
         plain : (e m q : ℕ) → (pos e *ℤ pos q) ≤ℤ pos m → e * q ≤ m
         plain e m q h = omega (arith, ints)
@@ -170,5 +170,5 @@ clearance_inside u v m e he hm hg hu hv = record {
             (difference_not_negative _ _ (subst (λ z. (q *ℤ (E *ℤ E)) ≤ℤ z) f (subst (λ z. (q *ℤ (z *ℤ z)) ≤ℤ M) e o))))
 
 -- an inner product has no order
-pub along_swap : (u v : Pt) → along u v ≡ along v u
-along_swap u v = ring (u.x ∷ u.y ∷ v.x ∷ v.y ∷ []) ((var 0 ⊗ var 2) ⊕ (var 1 ⊗ var 3)) ((var 2 ⊗ var 0) ⊕ (var 3 ⊗ var 1)) refl
+pub inner_product_swap : (u v : Pt) → inner_product u v ≡ inner_product v u
+inner_product_swap u v = ring (u.x ∷ u.y ∷ v.x ∷ v.y ∷ []) ((var 0 ⊗ var 2) ⊕ (var 1 ⊗ var 3)) ((var 2 ⊗ var 0) ⊕ (var 3 ⊗ var 1)) refl

@@ -3,7 +3,8 @@ use Rattle.std.proofs.Common.{◌≡◌, ◌∙◌, ℕ, ◌+◌, ◌*◌, ◌�
 use Rattle.std.proofs.lemmas.List.{append-nil, append_assoc, length-append, length-take-le, take_more, take_all}
 use Rattle.spot_terms.specs.declared.plain.Pt.{Pt}
 use Rattle.spot_terms.proofs.Orders.{natural_weaken}
-use Rattle.convex_poly.specs.Pivots.{minus, each_minus, differences}
+use Rattle.convex_poly.specs.Pivots.{each_minus, differences}
+use Rattle.convex_poly.specs.Vectors.{minus}
 
 -- ---- one point against a list
 

@@ -14,7 +14,8 @@ use Rattle.spot_terms.proofs.ListLemmas.{all_of}
 use Rattle.spot_terms.proofs.Ring.{ring, var, num, ◌⊕◌, ◌⊖◌, ◌⊗◌}
 use Rattle.spot_terms.proofs.Orders.{at_most_of_difference, difference_not_negative}
 use Rattle.convex_poly.specs.Pivots.{AreDisjoint}
-use Rattle.lane_paths.specs.Boxes.{IsAbove, IsGapBound, LieBeside}
+use Rattle.convex_poly.specs.Boxes.{IsAbove, LieBeside}
+use Rattle.lane_paths.specs.GapBounds.{IsGapBound}
 
 -- ---- from points to hulls
 

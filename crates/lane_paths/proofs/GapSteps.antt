@@ -1,6 +1,5 @@
 -- What the tests of the gap tell.
-use Rattle.std.proofs.Common.{◌≡◌, ℕ, ◌≤◌, ◌<◌, arith, refl, sym, subst, List, [], ◌∷◌, length, inl, inr, ℤ, ◌-ℤ◌, w64, to_z, of_z}
-use Rattle.std.proofs.lemmas.Int.{ints}
+use Rattle.std.proofs.Common.{◌≡◌, ℕ, ◌≤◌, ◌<◌, refl, sym, subst, List, inl, inr, ◌-ℤ◌}
 use Rattle.std.specs.Prelude.{nat_abs}
 use Rattle.std.specs.List.{AllByRecursion}
 use Rattle.spot_terms.specs.Gaps.{IsFarFrom, AreFar, IsGap}
@@ -9,38 +8,29 @@ use Rattle.spot_terms.specs.Whole.{IsRootFloor}
 use Rattle.spot_terms.specs.declared.plain.Pt.{Pt}
 use Rattle.spot_terms.proofs.ListLemmas.{all_of}
 use Rattle.spot_terms.proofs.Orders.{below_or_at_least}
-use Rattle.convex_poly.specs.Pivots.{AreDisjoint, minus, differences}
+use Rattle.convex_poly.specs.Pivots.{AreDisjoint, differences}
+use Rattle.convex_poly.specs.Vectors.{minus, IsShort}
 use Rattle.convex_poly.specs.Polygons.{IsPolygon}
 use Rattle.convex_poly.proofs.Disjoint.{meets_common, differences_hold, disjoint_or_meets}
-use Rattle.lane_paths.specs.Clearances.{IsSmall, IsLeastClearance}
+use Rattle.lane_paths.specs.Clearances.{IsLeastClearance}
 use Rattle.lane_paths.proofs.GapLaws.{gap_apart, gap_meets}
-use Rattle.spot_terms.proofs.OneHull.{same_pt}
 use Rattle.convex_poly.proofs.RunRows.{corner_some}
-
--- the difference of two points as the code computes it
-minus_is : (a b : ℤ) → nat_abs (a -ℤ b) ≤ 1_000_000_000 → a ≡ to_z w64 (of_z w64 a) → b ≡ to_z w64 (of_z w64 b) → to_z w64 (of_z w64 (to_z w64 (of_z w64 a) -ℤ to_z w64 (of_z w64 b))) ≡ a -ℤ b
-minus_is a b h e f = omega (arith, ints)
-
--- and as a point
-pub difference_is : (p q : Pt) → IsSmall (minus p q) → p.x ≡ to_z w64 (of_z w64 p.x) → q.x ≡ to_z w64 (of_z w64 q.x) → p.y ≡ to_z w64 (of_z w64 p.y) → q.y ≡ to_z w64 (of_z w64 q.y)
-    → ◌≡◌ {A = Pt} (record { x = to_z w64 (of_z w64 (to_z w64 (of_z w64 p.x) -ℤ to_z w64 (of_z w64 q.x))); y = to_z w64 (of_z w64 (to_z w64 (of_z w64 p.y) -ℤ to_z w64 (of_z w64 q.y))) }) (minus p q)
-difference_is p q h px qx py qy = same_pt _ _ (minus_is p.x q.x h.x px qx) (minus_is p.y q.y h.y py qy)
 
 -- ---- points that aren't far from each other
 
 -- their difference is small
-near_small : (p q : Pt) → (IsFarFrom p q → ⊥) → IsSmall (minus p q)
+near_small : (p q : Pt) → (IsFarFrom p q → ⊥) → IsShort (minus p q)
 near_small p q h = record { x = near (nat_abs (p.x -ℤ q.x)) (λ l. h (inl l)); y = near (nat_abs (p.y -ℤ q.y)) (λ l. h (inr l)) }
   where
     near : (n : ℕ) → (1_000_000_000 < n → ⊥) → n ≤ 1_000_000_000
     near n g = elim (below_or_at_least 1_000_000_000 n) [ inl l ↦ absurd (g l) | inr k ↦ k ]
 
 -- so are the vectors from all of b to one of a, and all differences
-pub near_ways : (a b : List Pt) (p : Pt) → (AreFar a b → ⊥) → Includes a p → (q : Pt) → Includes b q → IsSmall (minus p q)
+pub near_ways : (a b : List Pt) (p : Pt) → (AreFar a b → ⊥) → Includes a p → (q : Pt) → Includes b q → IsShort (minus p q)
 near_ways a b p h i q j = near_small p q (λ f. h (p, q, i, j, f))
 
-pub near_differences : (a b vectors : List Pt) → vectors ≡ differences a b → (AreFar a b → ⊥) → AllByRecursion IsSmall vectors
-near_differences a b vectors e h = subst (AllByRecursion IsSmall) (sym e) (all_of IsSmall (differences a b) (differences_hold IsSmall a b (λ p q i j. near_ways a b p h i q j)))
+pub near_differences : (a b vectors : List Pt) → vectors ≡ differences a b → (AreFar a b → ⊥) → AllByRecursion IsShort vectors
+near_differences a b vectors e h = subst (AllByRecursion IsShort) (sym e) (all_of IsShort (differences a b) (differences_hold IsShort a b (λ p q i j. near_ways a b p h i q j)))
 
 -- ---- the answers
 

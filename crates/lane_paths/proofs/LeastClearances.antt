@@ -6,13 +6,13 @@ use Rattle.std.specs.List.{AllByRecursion}
 use Rattle.std.specs.Prelude.{nat_abs}
 use lib.IntN.{ℤ, pos, ◌+ℤ◌, ◌*ℤ◌}
 use lib.Signed.{◌≤ℤ◌}
-use Rattle.convex_poly.specs.Pivots.{along}
+use Rattle.convex_poly.specs.Vectors.{inner_product, IsShort}
 use Rattle.convex_poly.proofs.Wide.{product_within}
 use Rattle.spot_terms.specs.declared.plain.Pt.{Pt}
 use Rattle.spot_terms.specs.Lists.{Includes}
 use Rattle.spot_terms.proofs.ListLemmas.{all_of, includes_at, includes_front, includes_back, includes_either, includes_taken}
 use Rattle.spot_terms.proofs.Orders.{natural_weaken, reflexive, below_or_at_least}
-use Rattle.lane_paths.specs.Clearances.{IsSmall, StaysOff, IsClearance, IsLeastSize, IsLesserClearance, IsLeastClearance, ReachesTo}
+use Rattle.lane_paths.specs.Clearances.{StaysOff, IsClearance, IsLeastSize, IsLesserClearance, IsLeastClearance, ReachesTo}
 use Rattle.lane_paths.proofs.ClearanceLaws.{off_down, off_first, off_swap, clearance_first}
 
 -- ---- one way against the others
@@ -82,7 +82,7 @@ lesser_all least u vectors i w h k = subst (λ (l : List Pt). IsLesserClearance 
 
 -- what reaches so far reaches less far
 pub reached_down : (w n : ℕ) (v : Pt) → n ≤ w → ReachesTo w v → ReachesTo n v
-reached_down w n v h k = plain w n (along v v) h k
+reached_down w n v h k = plain w n (inner_product v v) h k
   where
     plain : (w n : ℕ) (z : ℤ) → n ≤ w → pos w ≤ℤ z → pos n ≤ℤ z
     plain w n z h k = omega (arith, ints)
@@ -90,22 +90,22 @@ reached_down w n v h k = plain w n (along v v) h k
 -- w is the squared distance of one of the vectors from 0, and at most that of the first i
 pub record IsLeastSizeSoFar (vectors : List Pt) (i w : ℕ) : Type 0 where
   pub each : (v : Pt) → Includes (take i vectors) v → ReachesTo w v
-  pub one : (v : Pt) × Includes vectors v × (pos w ≡ along v v)
+  pub one : (v : Pt) × Includes vectors v × (pos w ≡ inner_product v v)
 
 -- at first it is that of the first
-pub size_none : (vectors : List Pt) (d : Pt) (w : ℕ) → 0 < length vectors → pos w ≡ along (slice_index_or vectors 0 d) (slice_index_or vectors 0 d) → IsLeastSizeSoFar vectors 0 w
+pub size_none : (vectors : List Pt) (d : Pt) (w : ℕ) → 0 < length vectors → pos w ≡ inner_product (slice_index_or vectors 0 d) (slice_index_or vectors 0 d) → IsLeastSizeSoFar vectors 0 w
 size_none vectors d w h e = record { each = λ v i. absurd i; one = (slice_index_or vectors 0 d, includes_at vectors 0 d h, e) }
 
 -- the lesser of the least so far and that of the next
-pub size_more : (vectors : List Pt) (i : ℕ) (d : Pt) (before w now : ℕ) → i < length vectors → IsLeastSizeSoFar vectors i before → pos w ≡ along (slice_index_or vectors i d) (slice_index_or vectors i d) → now ≡ min before w → IsLeastSizeSoFar vectors (i + 1) now
+pub size_more : (vectors : List Pt) (i : ℕ) (d : Pt) (before w now : ℕ) → i < length vectors → IsLeastSizeSoFar vectors i before → pos w ≡ inner_product (slice_index_or vectors i d) (slice_index_or vectors i d) → now ≡ min before w → IsLeastSizeSoFar vectors (i + 1) now
 size_more vectors i d before w now h k e is = let m = min_of before w now is in record {
   each = λ v j. elim (includes_taken vectors i d v h j) [
     | inl front ↦ reached_down before now v m.0 (k.each v front)
-    | inr same ↦ subst (ReachesTo now) (sym same) (reached_down w now (slice_index_or vectors i d) m.1 (equal (along (slice_index_or vectors i d) (slice_index_or vectors i d)) w e))
+    | inr same ↦ subst (ReachesTo now) (sym same) (reached_down w now (slice_index_or vectors i d) m.1 (equal (inner_product (slice_index_or vectors i d) (slice_index_or vectors i d)) w e))
   ];
   one = elim m.2 [
-    | inl old ↦ subst (λ (n : ℕ). (v : Pt) × Includes vectors v × (pos n ≡ along v v)) (sym old) k.one
-    | inr new ↦ subst (λ (n : ℕ). (v : Pt) × Includes vectors v × (pos n ≡ along v v)) (sym new) (slice_index_or vectors i d, includes_at vectors i d h, e)
+    | inl old ↦ subst (λ (n : ℕ). (v : Pt) × Includes vectors v × (pos n ≡ inner_product v v)) (sym old) k.one
+    | inr new ↦ subst (λ (n : ℕ). (v : Pt) × Includes vectors v × (pos n ≡ inner_product v v)) (sym new) (slice_index_or vectors i d, includes_at vectors i d h, e)
   ];
 }
   where
@@ -132,7 +132,7 @@ pub least_none : (vectors : List Pt) (w : ℕ) → IsLeastSize vectors w → IsL
 least_none vectors w s = record {
   reached = s.each;
   all = λ u v i j. absurd i;
-  one = let (v, i, e) = s.one in (v, v, i, i, clearance_first v v w e (reflexive (along v v)));
+  one = let (v, i, e) = s.one in (v, v, i, i, clearance_first v v w e (reflexive (inner_product v v)));
 }
 
 -- a way is among the first i, or among the others
@@ -162,7 +162,7 @@ least_more vectors i d before now h k s = record {
 }
   where
     at_itself : StaysOff (slice_index_or vectors i d) (slice_index_or vectors i d) before
-    at_itself = off_first (slice_index_or vectors i d) (slice_index_or vectors i d) before (k.reached (slice_index_or vectors i d) (includes_at vectors i d h)) (reflexive (along (slice_index_or vectors i d) (slice_index_or vectors i d)))
+    at_itself = off_first (slice_index_or vectors i d) (slice_index_or vectors i d) before (k.reached (slice_index_or vectors i d) (includes_at vectors i d h)) (reflexive (inner_product (slice_index_or vectors i d) (slice_index_or vectors i d)))
 
     here : (v : Pt) → Includes (take (i + 1) vectors) v ⊎ Includes (drop (i + 1) vectors) v → StaysOff (slice_index_or vectors i d) v now
     here v (inl front) = elim (includes_taken vectors i d v h front) [
@@ -178,7 +178,7 @@ least_all vectors i w h k = record { all = λ u v p q. k.all u v (subst (λ (l :
 -- ---- sizes
 
 -- what a small way reaches to
-pub small_reach : (v : Pt) (n : ℕ) → IsSmall v → ReachesTo n v → n ≤ 2_000_000_000_000_000_000
+pub small_reach : (v : Pt) (n : ℕ) → IsShort v → ReachesTo n v → n ≤ 2_000_000_000_000_000_000
 small_reach v n h k = plain n (v.x *ℤ v.x) (v.y *ℤ v.y) (product_within v.x v.x 1_000_000_000 1_000_000_000 h.x h.x) (product_within v.y v.y 1_000_000_000 1_000_000_000 h.y h.y) k
   where
     plain : (n : ℕ) (s t : ℤ) → nat_abs s ≤ 1_000_000_000 * 1_000_000_000 → nat_abs t ≤ 1_000_000_000 * 1_000_000_000 → pos n ≤ℤ (s +ℤ t) → n ≤ 2_000_000_000_000_000_000

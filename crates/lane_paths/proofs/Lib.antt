@@ -1,4 +1,4 @@
-pub mod BoxLaws
+pub mod FarBoxes
 pub mod Signs
 pub mod GapBounds
 pub mod HullClearances
@@ -13,6 +13,5 @@ pub mod RelaxLaws
 pub mod FrontierLists
 pub mod ShortestLengthLaws
 pub mod LabelLaws
-pub mod Positions
 pub mod LengthLists
 pub mod LinkLaws

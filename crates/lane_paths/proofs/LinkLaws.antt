@@ -8,13 +8,13 @@ use Rattle.spot_terms.proofs.Places.{all_at}
 use Rattle.convex_poly.specs.declared.poly.Poly.{Poly}
 use Rattle.spot_terms.specs.Cells.{Lane, NetCell, Portal, cells, corners_of}
 use Rattle.spot_terms.specs.Gaps.{IsGap}
-use Rattle.spot_terms.specs.Hull.{InHull, IsHullOf, whole_pt}
+use Rattle.spot_terms.specs.Hull.{InHull, IsHullOf}
 use Rattle.spot_terms.specs.Lists.{Includes, Lists}
 use Rattle.spot_terms.specs.Network.{IsAhead, within, joins, onto, off}
 use Rattle.spot_terms.specs.Routes.{IsStartCell}
 use Rattle.spot_terms.specs.declared.plain.Pt.{Pt}
 use Rattle.spot_terms.proofs.Gaps.{same_gap}
-use Rattle.spot_terms.proofs.Hulls.{hull_flat, hulls_of}
+use Rattle.spot_terms.proofs.Hulls.{hulls_of}
 use Rattle.spot_terms.proofs.ListLemmas.{includes_back, includes_front, includes_itself, includes_taken}
 use Rattle.lanelets.specs.Beside.{IsBeside, here}
 use Rattle.lanelets.proofs.BesideLaws.{beside_join}
@@ -228,7 +228,3 @@ starts_all lanes p k starts first now h g = subst (λ (z : List ℕ). Relaxes (L
 -- a start cell is a cell
 pub start_within : (lanes : List Lane) (p : Pt) (s : ℕ) → IsStartCell lanes p s → s < length (cells lanes)
 start_within lanes p s k = slice_get_within (cells lanes) s k.0 k.1
-
--- the hull of a start cell holds the start
-pub start_inside : (lanes : List Lane) (p : Pt) (s : ℕ) (a : NetCell) (shape : List Pt) → slice_get (cells lanes) s ≡ Some a → IsHullOf (corners_of a) shape → IsStartCell lanes p s → InHull shape p
-start_inside lanes p s a shape is h (b, b_is, i) = hull_flat (corners_of a) shape (whole_pt p) h.covers (subst (λ (z : NetCell). InHull (corners_of z) p) (same_cell lanes s s b a refl b_is is) i)

@@ -3,9 +3,9 @@ use Rattle.std.proofs.Common.{refl, subst, [], ◌∷◌}
 use Rattle.std.proofs.lemmas.Int.{ints}
 use Rattle.std.proofs.Common.{arith}
 use lib.IntN.{ℤ, pos, ◌+ℤ◌, ◌-ℤ◌, ◌*ℤ◌}
-use lib.Signed.{◌≤ℤ◌, ◌<ℤ◌}
+use lib.Signed.{◌≤ℤ◌}
 use Rattle.spot_terms.proofs.Ring.{ring, var, ◌⊕◌, ◌⊖◌, ◌⊗◌}
-use Rattle.spot_terms.proofs.Orders.{product_not_negative, product_positive}
+use Rattle.spot_terms.proofs.Orders.{product_not_negative}
 
 -- two orders in a row, as differences
 pub add_ok : (s t r : ℤ) → pos 0 ≤ℤ (t -ℤ s) → pos 0 ≤ℤ (r -ℤ t) → pos 0 ≤ℤ (r -ℤ s)

@@ -2,9 +2,8 @@
 use Rattle.std.specs.Prelude.{◌≡◌, ◌⊎◌, ℕ, ◌≤◌, List, ℤ, pos, ◌+ℤ◌, ◌*ℤ◌, ◌≤ℤ◌}
 use Rattle.spot_terms.specs.Bodies.{IsGreatest}
 use Rattle.spot_terms.specs.Lists.{Includes}
-use Rattle.spot_terms.specs.Whole.{SizeAtMost}
 use Rattle.spot_terms.specs.declared.plain.Pt.{Pt}
-use Rattle.convex_poly.specs.Pivots.{along}
+use Rattle.convex_poly.specs.Vectors.{inner_product}
 
 -- the squared distance of (x, y) from 0
 abbrev pub norm : ℤ → ℤ → ℤ
@@ -21,12 +20,12 @@ IsClearance u v n = IsGreatest (StaysOff u v) n
 
 -- the squared distance of u from 0 is at least n
 abbrev pub ReachesTo : ℕ → Pt → Type 0
-ReachesTo n u = pos n ≤ℤ along u u
+ReachesTo n u = pos n ≤ℤ inner_product u u
 
 -- n is the least squared distance of one of the vectors from 0
 pub record IsLeastSize (vectors : List Pt) (n : ℕ) : Type 0 where
   pub each : (v : Pt) → Includes vectors v → ReachesTo n v
-  pub one : (v : Pt) × Includes vectors v × (pos n ≡ along v v)
+  pub one : (v : Pt) × Includes vectors v × (pos n ≡ inner_product v v)
 
 -- n is the least of a number and the clearances of u and each of the vectors
 pub record IsLesserClearance (least : ℕ) (u : Pt) (vectors : List Pt) (n : ℕ) : Type 0 where
@@ -38,8 +37,3 @@ pub record IsLesserClearance (least : ℕ) (u : Pt) (vectors : List Pt) (n : ℕ
 pub record IsLeastClearance (vectors : List Pt) (n : ℕ) : Type 0 where
   pub all : (u v : Pt) → Includes vectors u → Includes vectors v → StaysOff u v n
   pub one : (u v : Pt) × Includes vectors u × Includes vectors v × IsClearance u v n
-
--- both coordinates are at most 10^9 in size
-pub record IsSmall (v : Pt) : Type 0 where
-  pub x : SizeAtMost 1_000_000_000 v.x
-  pub y : SizeAtMost 1_000_000_000 v.y

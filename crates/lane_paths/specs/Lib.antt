@@ -1,6 +1,6 @@
 -- The definitions, one module a concept.
 pub mod Clearances
-pub mod Boxes
+pub mod GapBounds
 pub mod Walks
 pub mod Edges
 pub mod Waypoints

@@ -4,15 +4,16 @@
 ghost use Rattle.std.specs.Prelude.{◌≡◌, ◌<◌, ◌≤◌, ◌/◌, ◌∷◌, [], length, min, pos, ◌+ℤ◌, ◌-ℤ◌, ◌*ℤ◌, ◌≤ℤ◌, ◌<ℤ◌};
 ghost use Rattle.std.specs.List.{AllByRecursion};
 ghost use Rattle.spot_terms.specs.Whole.{SizeAtMost};
-ghost use Rattle.convex_poly.specs.Pivots.{along as along_of, turn_of};
-ghost use Rattle.lane_paths.specs.Clearances.{IsLeastSize, IsLeastClearance, IsLesserClearance, IsSmall, ReachesTo};
+ghost use Rattle.convex_poly.specs.Vectors.{IsShort};
+ghost use Rattle.lane_paths.specs.Clearances.{IsLeastSize, IsLeastClearance, IsLesserClearance, ReachesTo};
 
+use convex_poly::plane::{short_inner_product, short_turn};
 use spot_terms::Pt;
 
 /// The least clearance of two of the vectors. Each pair is looked at in one order only, and those of a vector with itself first.
 pub(crate) fn least_clearance(vectors: &[Pt]) -> u128
     requires some { 0 < length vectors.now }
-    requires small { AllByRecursion IsSmall vectors.now }
+    requires small { AllByRecursion IsShort vectors.now }
     ensures is { IsLeastClearance vectors.now result }
     ensures within { result ≤ 2_000_000_000_000_000_000 }
 {
@@ -26,20 +27,20 @@ pub(crate) fn least_clearance(vectors: &[Pt]) -> u128
 /// The least squared size of one of the vectors.
 fn least_size(vectors: &[Pt]) -> u128
     requires some { 0 < length vectors.now }
-    requires small { AllByRecursion IsSmall vectors.now }
+    requires small { AllByRecursion IsShort vectors.now }
     ensures { IsLeastSize vectors.now result }
 {
-    let mut least = size(along(&vectors[0], &vectors[0]));
+    let mut least = size(short_inner_product(&vectors[0], &vectors[0]));
     for u in vectors {
-        least = least.min(size(along(u, u)));
+        least = least.min(size(short_inner_product(u, u)));
     }
     least
 }
 
 /// The least of `least`, which is at most the squared size of each vector, and the clearances of `u` and each of the vectors.
 fn lesser_clearance(least: u128, u: &Pt, vectors: &[Pt]) -> u128
-    requires u_in { IsSmall u.now }
-    requires small { AllByRecursion IsSmall vectors.now }
+    requires u_in { IsShort u.now }
+    requires small { AllByRecursion IsShort vectors.now }
     requires u_reached { ReachesTo least u.now }
     requires reached { AllByRecursion (ReachesTo least) vectors.now }
     ensures { IsLesserClearance least u.now vectors.now result }
@@ -54,19 +55,19 @@ fn lesser_clearance(least: u128, u: &Pt, vectors: &[Pt]) -> u128
 /// The lesser of `least`, which is at most the squared sizes of two vectors, and their clearance. Only where the point nearest to 0
 /// is between the two can the clearance be less.
 fn lesser_of(least: u128, u: &Pt, v: &Pt) -> u128
-    requires u_in { IsSmall u.now }
-    requires v_in { IsSmall v.now }
+    requires u_in { IsShort u.now }
+    requires v_in { IsShort v.now }
     requires u_reached { ReachesTo least u.now }
     requires v_reached { ReachesTo least v.now }
     ensures { IsLesserClearance least u.now (v.now ∷ []) result }
 {
-    let uv = along(u, v);
-    let uu = along(u, u);
-    let vv = along(v, v);
+    let uv = short_inner_product(u, v);
+    let uu = short_inner_product(u, u);
+    let vv = short_inner_product(v, v);
     if uu <= uv || vv <= uv {
         return least;
     }
-    lesser_quotient(least, square(turn(u, v)), square_length(uu, uv, vv))
+    lesser_quotient(least, square(short_turn(u, v)), square_length(uu, uv, vv))
 }
 
 /// The lesser of `least` and a quotient, rounded down, which is computed only where it is less.
@@ -108,34 +109,4 @@ fn square_length(uu: i64, uv: i64, vv: i64) -> u128
     ensures within { result ≤ 8_000_000_000_000_000_000 }
 {
     u128::from(((uu - uv) + (vv - uv)).unsigned_abs())
-}
-
-/// The inner product of two vectors.
-fn along(u: &Pt, v: &Pt) -> i64
-    requires u_in { IsSmall u.now }
-    requires v_in { IsSmall v.now }
-    ensures value { result ≡ along_of u.now v.now }
-    ensures within { SizeAtMost 2_000_000_000_000_000_000 result }
-{
-    product(u.x, v.x) + product(u.y, v.y)
-}
-
-/// Twice the area of the triangle of 0, `u` and `v`: positive where `v` is left of `u`.
-fn turn(u: &Pt, v: &Pt) -> i64
-    requires u_in { IsSmall u.now }
-    requires v_in { IsSmall v.now }
-    ensures value { result ≡ turn_of u.now v.now }
-    ensures within { SizeAtMost 2_000_000_000_000_000_000 result }
-{
-    product(u.x, v.y) - product(u.y, v.x)
-}
-
-/// The product of two coordinates of vectors.
-fn product(a: i64, b: i64) -> i64
-    requires a_in { SizeAtMost 1_000_000_000 a }
-    requires b_in { SizeAtMost 1_000_000_000 b }
-    ensures value { result ≡ a *ℤ b }
-    ensures within { SizeAtMost 1_000_000_000_000_000_000 result }
-{
-    a * b
 }

@@ -1,19 +1,24 @@
 //! The gap of two convex polygons.
 
-ghost use Rattle.std.specs.Prelude.{◌≡◌, ◌↔◌, ◌<◌, ◌≤◌, ◌+◌, ◌*◌, ◌++◌, ℕ, IsTrue, length};
-ghost use Rattle.spot_terms.specs.Gaps.{AreFar, IsGap};
+ghost use Rattle.std.specs.Prelude.{◌≡◌, ◌↔◌, ◌<◌, ◌≤◌, ◌+◌, ◌*◌, ◌++◌, ℕ, IsTrue, List, length};
+ghost use Rattle.spot_terms.specs.Gaps.{AreFar, IsFarFrom, IsGap};
 ghost use Rattle.spot_terms.specs.Lists.{Includes};
 ghost use Rattle.spot_terms.specs.declared.plain.Pt.{Pt as Point};
-ghost use Rattle.convex_poly.specs.Pivots.{AreDisjoint, differences as differences_of, each_minus, minus};
-ghost use Rattle.lane_paths.specs.Boxes.{IsBoxOf, IsGapBound};
-ghost use Rattle.lane_paths.specs.Clearances.{IsLeastClearance, IsSmall};
+ghost use Rattle.convex_poly.specs.Pivots.{AreDisjoint, differences as differences_of, each_minus};
+ghost use Rattle.convex_poly.specs.Vectors.{minus, IsShort};
+ghost use Rattle.convex_poly.specs.Boxes.{IsBoxOf};
+ghost use Rattle.lane_paths.specs.GapBounds.{IsGapBound};
+ghost use Rattle.lane_paths.specs.Clearances.{IsLeastClearance};
 
-use crate::boxes::BoundingBox;
 use crate::clearances::least_clearance;
 use arrayvec::ArrayVec;
-use convex_poly::Poly;
+use convex_poly::plane::short_minus;
+use convex_poly::{BoundingBox, Poly};
 use spot_num::isqrt_floor;
 use spot_terms::Pt;
+
+/// A kilometre in µm.
+const KILOMETRE: u64 = 1_000_000_000;
 
 /// The gap of two polygons: the greatest whole number that is at most the distance of each two of their points, in µm.
 /// It is 0 where they have a common point, and where a corner of the one and a corner of the other differ by more than
@@ -25,7 +30,7 @@ pub fn gap(a: &Poly, b: &Poly) -> u64
     let b_corners = b.corners();
     let a_box = BoundingBox::of(a_corners);
     let b_box = BoundingBox::of(b_corners);
-    if a_box.is_far_from(&b_box) || !are_apart(a, b, &a_box, &b_box) {
+    if are_far(&a_box, &b_box) || !are_apart(a, b, &a_box, &b_box) {
         return 0;
     }
     isqrt_floor(clearance_between(a_corners, b_corners))
@@ -51,7 +56,7 @@ pub(crate) fn gap_at_least(a: &[Pt], b: &[Pt]) -> u64
 {
     let a_box = BoundingBox::of(a);
     let b_box = BoundingBox::of(b);
-    if a_box.is_far_from(&b_box) {
+    if are_far(&a_box, &b_box) {
         0
     } else {
         a_box.beside(&b_box)
@@ -96,21 +101,24 @@ fn clearance_of_at_most<const N: usize>(a: &[Pt], b: &[Pt]) -> u128
 /// Adds the vectors from each point of `b` to `p` at the end.
 fn push_differences<const N: usize>(vectors: &mut ArrayVec<Pt, N>, p: &Pt, b: &[Pt])
     requires room { length vectors.old.items + length b.now ≤ N }
-    requires near { (q : Point) → Includes b.now q → IsSmall (minus p.now q) }
+    requires near { (q : Point) → Includes b.now q → IsShort (minus p.now q) }
     ensures { vectors.new.items ≡ vectors.old.items ++ each_minus p.now b.now }
 {
     for q in b {
-        vectors.push(difference(p, q));
+        vectors.push(short_minus(p, q));
     }
 }
 
-/// The vector from `q` to `p`.
-fn difference(p: &Pt, q: &Pt) -> Pt
-    requires { IsSmall (minus p.now q.now) }
-    ensures { result ≡ minus p.now q.now }
+/// Whether some of the points in the one box are far from some in the other.
+fn are_far(a_box: &BoundingBox, b_box: &BoundingBox) -> bool
+    ensures { (a b : List Point) → IsBoxOf a a_box.now → IsBoxOf b b_box.now → (IsTrue result ↔ AreFar a b) }
 {
-    Pt {
-        x: p.x - q.x,
-        y: p.y - q.y,
-    }
+    is_far(&a_box.high, &b_box.low) || is_far(&b_box.high, &a_box.low)
+}
+
+/// Whether the two differ by more than a kilometre in a coordinate.
+fn is_far(p: &Pt, q: &Pt) -> bool
+    ensures { IsTrue result ↔ IsFarFrom p.now q.now }
+{
+    p.x.abs_diff(q.x) > KILOMETRE || p.y.abs_diff(q.y) > KILOMETRE
 }

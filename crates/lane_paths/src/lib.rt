@@ -1,7 +1,6 @@
 //! Gaps of convex polygons, and labels: the least lengths of routes through a network. All lengths are whole µm.
 #![tactic(auto)]
 
-mod boxes;
 mod clearances;
 mod frontier;
 mod gaps;

@@ -4,7 +4,7 @@
 ghost use Rattle.std.specs.Prelude.{◌≡◌, ◌<◌, ◌∷◌, ℕ, [], List, Option, length, true, false, IfOk, OnOk};
 ghost use Rattle.std.specs.List.{AllByRecursion};
 ghost use Rattle.spot_terms.specs.Cells.{cells};
-ghost use Rattle.spot_terms.specs.Hull.{InHull, IsHullOf};
+ghost use Rattle.spot_terms.specs.Hull.{IsHullOf};
 ghost use Rattle.spot_terms.specs.Network.{IsAhead};
 ghost use Rattle.spot_terms.specs.Routes.{IsStartCell};
 ghost use Rattle.spot_terms.specs.declared.plain.Pt.{Pt as Point};
@@ -27,6 +27,7 @@ pub(crate) fn relax_start(
 ) -> Result<(), AllocError>
     requires places { HasPlaces net.now search.old }
     requires starts { AllByRecursion (IsStartCell net.now start) starts.now }
+    requires near { (c : ℕ) → IsStartCell net.now start c → IsPosition start }
     ensures places { OnOk result (HasPlaces net.now search.new) }
     ensures relaxes { OnOk result (Relaxes (LinksFromStart net.now start starts.now) 0 search.old search.new) }
 {
@@ -34,7 +35,7 @@ pub(crate) fn relax_start(
         let from = Waypoint {
             cell: *s,
             length: 0,
-            shape: point_in(&net.cell(*s).poly, start),
+            shape: polygon_at(start),
         };
         relax_waypoint(search, net, &from)?;
     }
@@ -162,31 +163,17 @@ fn relax_to(
 
 /// The hull of a cell's entry.
 fn entry_of(cell: &Cell) -> Poly
-    requires left { InHull cell.now.poly cell.now.entry.0 }
-    requires right { InHull cell.now.poly cell.now.entry.1 }
+    requires left { IsPosition cell.now.entry.0 }
+    requires right { IsPosition cell.now.entry.1 }
     ensures { IsHullOf (cell.now.entry.0 ∷ cell.now.entry.1 ∷ []) result }
 {
-    segment(
-        inside(&cell.poly, cell.entry.0),
-        inside(&cell.poly, cell.entry.1),
-    )
+    segment(cell.entry.0, cell.entry.1)
 }
 
-/// A point of a polygon as a polygon.
-fn point_in(of: &Poly, p: Pt) -> Poly
-    requires { InHull of.now p }
+/// A point as a polygon.
+fn polygon_at(p: Pt) -> Poly
+    requires { IsPosition p }
     ensures { IsHullOf (p ∷ []) result }
 {
-    hull(&[inside(of, p)])
-}
-
-/// A point of a polygon, which is no further out than the corners.
-fn inside(of: &Poly, p: Pt) -> Pt
-    requires { InHull of.now p }
-    ensures is { result ≡ p }
-    ensures position { IsPosition result }
-{
-    // The corners are positions, so that all points of the polygon are.
-    let _ = of.corners();
-    p
+    hull(&[p])
 }

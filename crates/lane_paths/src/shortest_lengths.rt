@@ -2,7 +2,7 @@
 //! the hull of cell c, where a route ends, n + d is the entry of cell d, and 2n is the start.
 
 ghost use Rattle.std.specs.Prelude.{◌≡◌, ◌↔◌, ◌+◌, ◌<◌, ℕ, [], length, slice_get, take, Some, IfNone, IfOk, IfSome, IsTrue, OnOk};
-ghost use Rattle.lane_paths.specs.Boxes.{IsGapBound};
+ghost use Rattle.lane_paths.specs.GapBounds.{IsGapBound};
 ghost use Rattle.lane_paths.specs.Edges.{AreFirst, HasAtMost};
 ghost use Rattle.lane_paths.specs.Relaxations.{IsDone, IsLesser, IsNotLesser, Relaxes, StepsTo};
 

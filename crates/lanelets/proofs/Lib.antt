@@ -19,7 +19,7 @@ pub mod Places
 pub mod RowLists
 pub mod SideLaws
 pub mod Sides
-pub mod SpanLaws
+pub mod BoxLists
 pub mod StepLists
 pub mod WidthLists
 pub mod PartCounts

@@ -1,8 +1,8 @@
 -- The computed number of parts of a piece is the least that will do.
-use Rattle.std.proofs.Common.{◌≡◌, ℕ, ◌+◌, ◌*◌, ◌/◌, ◌^◌, ◌<◌, ◌≤◌, max, arith, mul-le-mul}
-use Rattle.spot_terms.specs.Cells.{Pair, part_count, side_square}
-use Rattle.spot_terms.specs.PartCounts.{IsPartCount, PartCountsAre}
-use Rattle.spot_terms.specs.Whole.{IsRootCeiling, root_ceiling}
+use Rattle.std.proofs.Common.{ℕ, ◌+◌, ◌*◌, ◌/◌, ◌≤◌, max, arith, mul-le-mul}
+use Rattle.spot_terms.specs.Cells.{part_count, side_square}
+use Rattle.spot_terms.specs.PartCounts.{PartCountsAre}
+use Rattle.spot_terms.specs.Whole.{root_ceiling}
 use Rattle.spot_terms.proofs.Roots.{root_ceiling-is}
 
 -- that many parts are at least as long as the root

@@ -8,20 +8,20 @@ use Rattle.lanelets.specs.declared.cell.Cell.{Cell}
 use Rattle.lanelets.specs.declared.cell.Placed.{Placed}
 use Rattle.lanelets.specs.declared.classes.Classes.{Classes}
 use Rattle.lanelets.specs.declared.kept.KeptLane.{KeptLane}
-use Rattle.lanelets.specs.declared.spans.Span.{Span}
+use Rattle.convex_poly.specs.declared.boxes.BoundingBox.{BoundingBox}
 use Rattle.lanelets.specs.Beside.{AreClasses}
 use Rattle.lanelets.specs.Kept.{IsKept}
 use Rattle.lanelets.specs.Listing.{AreLists}
 use Rattle.lanelets.specs.Steps.{IsInside}
 use Rattle.lanelets.specs.Made.{IsCellOf, IsPlaced, source_of}
-use Rattle.lanelets.specs.Spans.{AreSpans}
+use Rattle.lanelets.specs.Boxes.{AreBoxes}
 
--- its cells, with their spans, those ahead of each and their classes, and its lanelets
-pub record IsBuilt (lanes : List Lane) (made : List Placed) (spans : List Span) (kept : List KeptLane) (next : List (List ℕ)) (classes : Classes) : Type 0 where
+-- its cells, with the boxes round them, those ahead of each and their classes, and its lanelets
+pub record IsBuilt (lanes : List Lane) (made : List Placed) (boxes : List BoundingBox) (kept : List KeptLane) (next : List (List ℕ)) (classes : Classes) : Type 0 where
   pub few : length (cells lanes) ≤ 100_000
   pub placed : Pairwise (IsPlaced lanes) (cells lanes) made
   pub inside : AllByRecursion (λ (p : Placed). IsInside (length lanes) p.origin) made
-  pub spans_are : AreSpans made spans
+  pub boxes_are : AreBoxes made boxes
   pub kept_is : Pairwise IsKept lanes kept
   pub ahead : AreLists (IsAhead lanes (cells lanes)) (length (cells lanes)) next
   pub beside : AreClasses lanes (cells lanes) classes

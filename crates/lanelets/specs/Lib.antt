@@ -12,5 +12,5 @@ pub mod Listing
 pub mod Made
 pub mod Nearby
 pub mod Pieces
-pub mod Spans
+pub mod Boxes
 pub mod Steps

@@ -10,6 +10,7 @@ ghost use Rattle.lanelets.specs.Links.{AreLinks};
 ghost use Rattle.lanelets.specs.Made.{IsPlaced};
 
 use crate::ahead::ahead_of;
+use crate::boxes::boxes_of;
 use crate::bridges::add_bridges;
 use crate::cell::Placed;
 use crate::classes::classes_of;
@@ -20,7 +21,6 @@ use crate::links::{Links, links_of};
 use crate::making::add_lanes;
 use crate::nearby::nearby_of;
 use crate::network::Network;
-use crate::spans::spans_of;
 use crate::widths::first_wide;
 use indexmap::IndexMap;
 use spot_terms::RawLane;
@@ -65,8 +65,8 @@ fn network_of(
     let ahead = ahead_of(alloc, lanes, links, &cells)?;
     let nearby = nearby_of(alloc, lanes, &cells)?;
     let classes = classes_of(alloc, &cells, &kept, &nearby)?;
-    let spans = spans_of(alloc, &cells)?;
-    Ok(Network::of(lanes, cells, spans, kept, ahead, classes))
+    let boxes = boxes_of(alloc, &cells)?;
+    Ok(Network::of(lanes, cells, boxes, kept, ahead, classes))
 }
 
 /// The network of lanelets, which are kept by their ids in document order.

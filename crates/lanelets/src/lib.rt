@@ -5,6 +5,7 @@ ghost use Rattle.spot_terms.specs.PartCounts.{PartCountsAre};
 
 mod ahead;
 mod bridges;
+mod boxes;
 mod building;
 mod cell;
 mod classes;
@@ -23,7 +24,6 @@ mod pairs;
 mod piece;
 mod portals;
 mod search;
-mod spans;
 mod steps;
 mod widths;
 

@@ -7,7 +7,7 @@ use crate::classes::Classes;
 use crate::kept::{KeptLane, are_side_cells};
 use crate::numbers::{Numbers, has_number, list_at};
 use crate::search::{CellList, cells_holding};
-use crate::spans::Span;
+use convex_poly::BoundingBox;
 use indexmap::IndexMap;
 use spot_terms::{Pt, RawLane};
 use std::alloc::{AllocError, Global};
@@ -19,7 +19,7 @@ use std::snapshot::Snapshot;
 pub struct Network {
     built_from: Snapshot<IndexMap<u32, RawLane>>,
     cells: Vec<Placed>,
-    spans: Vec<Span>,
+    boxes: Vec<BoundingBox>,
     lanes: Vec<KeptLane>,
     ahead: Vec<Numbers>,
     classes: Classes,
@@ -34,34 +34,35 @@ impl Model for Network {
 
     ghost view = { λ n. n.built_from.value.entries };
 
-    ghost invariant = { λ n. IsBuilt n.built_from.value.entries n.cells.items n.spans.items n.lanes.items n.ahead.items n.classes };
+    ghost invariant = { λ n. IsBuilt n.built_from.value.entries n.cells.items n.boxes.items n.lanes.items n.ahead.items n.classes };
 }
 
 impl Network {
-    ghost use Rattle.std.specs.Prelude.{◌≡◌, ◌↔◌, ◌<◌, ◌≤◌, length, IsTrue, IfOk};
+    ghost use Rattle.std.specs.Prelude.{◌≡◌, ◌↔◌, ◌<◌, ◌≤◌, ℕ, length, IsTrue, IfOk};
     ghost use Rattle.spot_terms.specs.Network.{IsAhead, IsSide};
+    ghost use Rattle.convex_poly.specs.Polygons.{IsPosition};
     ghost use Rattle.lanelets.specs.Beside.{IsBeside};
     ghost use Rattle.lanelets.specs.Built.{IsBuilt, IsCellAt};
     ghost use Rattle.spot_terms.specs.Routes.{IsStartCell};
     ghost use Rattle.spot_terms.specs.Lists.{Lists};
 
-    // The network of lanelets with these cells and their spans, with what is kept of the lanelets, the cells ahead of
+    // The network of lanelets with these cells and the boxes round them, with what is kept of the lanelets, the cells ahead of
     // each, and their classes.
     pub(crate) fn of(
         lanes: &IndexMap<u32, RawLane>,
         cells: Vec<Placed>,
-        spans: Vec<Span>,
+        boxes: Vec<BoundingBox>,
         kept: Vec<KeptLane>,
         ahead: Vec<Numbers>,
         classes: Classes,
     ) -> Network
-        requires { IsBuilt lanes.now.entries cells.items spans.items kept.items ahead.items classes }
+        requires { IsBuilt lanes.now.entries cells.items boxes.items kept.items ahead.items classes }
         ensures { result ≡ lanes.now.entries }
     {
         Network {
             built_from: Snapshot::of(lanes),
             cells,
-            spans,
+            boxes,
             lanes: kept,
             ahead,
             classes,
@@ -117,11 +118,13 @@ impl Network {
         list_at(&self.classes.cells, self.classes.numbers[c as usize])
     }
 
-    /// The numbers of the cells whose hull holds the point, in order.
+    /// The numbers of the cells whose hull holds the point, in order. Where there is one, the coordinates of the point are at
+    /// most 4·10^13 in size.
     pub fn cells_at(&self, alloc: Global, p: Pt) -> Result<CellList, AllocError>
-        ensures { IfOk result (λ list. Lists (IsStartCell self.now p) list) }
+        ensures list { IfOk result (λ list. Lists (IsStartCell self.now p) list) }
+        ensures near { (c : ℕ) → IsStartCell self.now p c → IsPosition p }
     {
-        let list = cells_holding(alloc, &self.cells, &self.spans, p)?;
+        let list = cells_holding(alloc, &self.cells, &self.boxes, p)?;
         Ok(list)
     }
 }

@@ -1,15 +1,13 @@
 -- Two clips, one after the other.
-use Rattle.std.proofs.Common.{◌≡◌, ◌∙◌, ◌⊎◌, ℕ, ◌+◌, ◌≤◌, arith, ap, sym, refl, subst, List, [], ◌∷◌, inl, inr, length}
+use Rattle.std.proofs.Common.{◌≡◌, arith, sym, refl, subst, List, [], ◌∷◌, inl, inr}
 use Rattle.std.specs.Prelude.{Option, Some, None, IfSome}
-use Rattle.std.specs.List.{AllByRecursion}
 use Rattle.std.proofs.lemmas.Int.{ints}
-use lib.IntN.{ℤ, pos, negsuc, neg_ℤ, ◌+ℤ◌, ◌-ℤ◌, ◌*ℤ◌}
+use lib.IntN.{ℤ, pos, negsuc, neg_ℤ, ◌-ℤ◌}
 use lib.Signed.{◌≤ℤ◌}
 use Rattle.spot_terms.specs.declared.plain.Pt.{Pt}
 use Rattle.spot_terms.specs.ChildNumbers.{support}
-use Rattle.spot_terms.specs.ClippedTo.{IsClippedTo, IsClippedAway}
 use Rattle.spot_terms.specs.Clips.{Reflection, IsClip, x_turned, turned_and_swapped, as_it_is, swapped}
-use Rattle.spot_terms.specs.Hull.{dot, InHull, IsSupport, IsCornerList}
+use Rattle.spot_terms.specs.Hull.{dot, IsSupport, IsCornerList}
 use Rattle.spot_terms.specs.Lists.{Includes}
 use Rattle.spot_terms.specs.Reach.{Normal}
 use Rattle.spot_terms.specs.Whole.{Within}

@@ -10,6 +10,7 @@ ghost use Rattle.convex_poly.specs.Polygons.{IsPosition};
 ghost use Rattle.round_out.specs.Clips.{GainsAtMostOne, KeepsSide, StaysInBox, StaysOnSide, reflection};
 
 use arrayvec::ArrayVec;
+use convex_poly::plane::{offset, times};
 use convex_poly::{Poly, hull};
 use spot_num::div_floor;
 use spot_terms::Pt;
@@ -212,7 +213,7 @@ fn height_below(from: &Pt, to: &Pt, c: i64) -> i64
     ensures value { result ≡ height_below_of c from.now to.now }
     ensures size { SizeAtMost 40_000_000_000_000 result }
 {
-    let part = div_floor(rise(from, to, c), way(from.x, to.x));
+    let part = div_floor(rise(from, to, c), i128::from(offset(from.x, to.x)));
     (i128::from(from.y) + part) as i64
 }
 
@@ -227,7 +228,7 @@ fn height_above(from: &Pt, to: &Pt, c: i64, below: i64) -> i64
     ensures value { result ≡ height_above_of c from.now to.now }
     ensures size { SizeAtMost 40_000_000_000_000 result }
 {
-    if way(from.y, below) * way(from.x, to.x) == rise(from, to, c) {
+    if times(offset(from.y, below), offset(from.x, to.x)) == rise(from, to, c) {
         below
     } else {
         below + 1
@@ -242,12 +243,5 @@ fn rise(from: &Pt, to: &Pt, c: i64) -> i128
     requires past { c <ℤ to.now.x }
     ensures { result ≡ (to.now.y -ℤ from.now.y) *ℤ (c -ℤ from.now.x) }
 {
-    way(from.y, to.y) * way(from.x, c)
-}
-
-/// The way from one coordinate to another.
-fn way(from: i64, to: i64) -> i128
-    ensures { result ≡ to -ℤ from }
-{
-    i128::from(to) - i128::from(from)
+    times(offset(from.y, to.y), offset(from.x, c))
 }

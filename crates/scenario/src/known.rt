@@ -12,7 +12,7 @@ ghost use Rattle.scenario.specs.Known.{HasFirsts, IsKnown, least_of_places, firs
 
 use crate::numbers::read_id;
 use crate::table::Group;
-use crate::walk::along;
+use crate::walk::walk_all;
 use spot_terms::MOST_OBSTACLES;
 use spot_tree::Tree;
 use std::alloc::{AllocError, Global};
@@ -69,7 +69,7 @@ fn elements_of(alloc: Global, tree: &Tree, group: Group) -> Result<Vec<u32>, All
     ensures found { IfOk result (λ found. found.items ≡ at_paths tree.now (group_paths group)) }
     ensures within { IfOk result (λ found. All (λ e. e < length tree.now) found.items) }
 {
-    along(alloc, tree, group.paths())
+    walk_all(alloc, tree, group.paths())
 }
 
 // The first place of each id of a group.

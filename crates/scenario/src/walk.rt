@@ -101,7 +101,7 @@ pub(crate) fn walk(
 }
 
 /// The elements that paths from the root lead to, those of one path after another. They are below `len`.
-pub(crate) fn along(alloc: Global, tree: &Tree, paths: &[Path]) -> Result<Vec<u32>, AllocError>
+pub(crate) fn walk_all(alloc: Global, tree: &Tree, paths: &[Path]) -> Result<Vec<u32>, AllocError>
     ensures found { IfOk result (λ found. found.items ≡ at_paths tree.now (map path_of paths.now)) }
     ensures within { IfOk result (λ found. All (λ e. e < length tree.now) found.items) }
 {

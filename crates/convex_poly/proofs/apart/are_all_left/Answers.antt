@@ -16,11 +16,11 @@ returns-then-not-are_left c = (
 
 pub loop-p-preserved : goal.loop-p-preserved
 loop-p-preserved c =
-    below_and_here (λ p. AreLeftwards c.args.way.now p c.args.b.now) c.args.a.now c.loop-p.p-index origin c.loop-p-test.true c.loop-p.invariant
+    below_and_here (λ p. AreLeftwards c.args.vector.now p c.args.b.now) c.args.a.now c.loop-p.p-index origin c.loop-p-test.true c.loop-p.invariant
     (c.are_left.ensures.0 c.if-not-are_left.false)
 
 pub returns : goal.returns
 returns c = (
-  (λ yes. all_places (λ p. AreLeftwards c.args.way.now p c.args.b.now) c.args.a.now c.loop-p.p-index c.loop-p-test.false c.loop-p.invariant),
+  (λ yes. all_places (λ p. AreLeftwards c.args.vector.now p c.args.b.now) c.args.a.now c.loop-p.p-index c.loop-p-test.false c.loop-p.invariant),
   (λ all. refl),
 )

@@ -11,12 +11,12 @@ origin = record { x = pos 0; y = pos 0 }
 
 pub loop-corner-init : goal.loop-corner-init
 loop-corner-init c =
-    first_reached c.args.corners.now (to_z w64 (of_z w64 c.args.nx)) (to_z w64 (of_z w64 c.args.ny)) _ origin c.requires.some (back c.along-greatest.result c.along-greatest.type_inv ∙ c.along-greatest.ensures)
+    first_reached c.args.corners.now (to_z w64 (of_z w64 c.args.nx)) (to_z w64 (of_z w64 c.args.ny)) _ origin c.requires.some (back c.dot-greatest.result c.dot-greatest.type_inv ∙ c.dot-greatest.ensures)
 
 pub loop-corner-preserved : goal.loop-corner-preserved
 loop-corner-preserved c =
-    next_reached c.args.corners.now (to_z w64 (of_z w64 c.args.nx)) (to_z w64 (of_z w64 c.args.ny)) c.loop-corner.corner-index origin _ (to_z w64 (of_z w64 c.along.result)) _ c.loop-corner-test.true c.loop-corner.invariant
-    (back c.along.result c.along.type_inv ∙ c.along.ensures)
+    next_reached c.args.corners.now (to_z w64 (of_z w64 c.args.nx)) (to_z w64 (of_z w64 c.args.ny)) c.loop-corner.corner-index origin _ (to_z w64 (of_z w64 c.dot.result)) _ c.loop-corner-test.true c.loop-corner.invariant
+    (back c.dot.result c.dot.type_inv ∙ c.dot.ensures)
     (back c.max-greatest.result c.max-greatest.type_inv ∙ c.max-greatest.ensures.value)
 
 pub returns : goal.returns

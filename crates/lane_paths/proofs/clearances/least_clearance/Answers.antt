@@ -5,7 +5,8 @@ use Rattle.spot_terms.specs.declared.plain.Pt.{Pt}
 use Rattle.spot_terms.proofs.ListLemmas.{includes_at}
 use Rattle.convex_poly.proofs.Corners.{origin}
 use Rattle.spot_terms.proofs.Places.{all_at}
-use Rattle.lane_paths.specs.Clearances.{IsLesserClearance, IsSmall, ReachesTo}
+use Rattle.convex_poly.specs.Vectors.{IsShort}
+use Rattle.lane_paths.specs.Clearances.{IsLesserClearance, ReachesTo}
 use Rattle.lane_paths.proofs.LeastClearances.{least_none, least_more, least_all, rest_reached, small_reach}
 use Rattle.lane_paths.proofs.clearances.least_clearance.Goals as goal
 
@@ -35,4 +36,4 @@ returns-clause-is c = least_all c.args.vectors.now c.loop-i.i c.loop-i.least c.l
 pub returns-clause-within : goal.returns-clause-within
 returns-clause-within c =
     let first : Pt = get_or c.args.vectors.now 0 origin in
-    small_reach first c.loop-i.least (all_at IsSmall c.args.vectors.now 0 origin c.requires.small c.requires.some) (c.loop-i.invariant.reached first (includes_at c.args.vectors.now 0 origin c.requires.some))
+    small_reach first c.loop-i.least (all_at IsShort c.args.vectors.now 0 origin c.requires.small c.requires.some) (c.loop-i.invariant.reached first (includes_at c.args.vectors.now 0 origin c.requires.some))

@@ -1,6 +1,6 @@
 use Rattle.std.proofs.Common.{rules}
 use Rattle.spot_terms.specs.Bodies.{IsGreatest}
-use Rattle.lane_paths.specs.Boxes.{LieBeside}
+use Rattle.convex_poly.specs.Boxes.{LieBeside}
 use Rattle.lane_paths.proofs.GapBounds.{disjoint_beside}
 use Rattle.lane_paths.proofs.gaps.are_apart.Goals as goal
 

@@ -1,6 +1,7 @@
 use Rattle.std.proofs.Common.{◌+◌, [], ◌∷◌, arith}
 use Rattle.spot_terms.specs.Cells.{Portal}
 use Rattle.lane_paths.specs.declared.shortest_lengths.ShortestLengths.{ShortestLengths}
+use Rattle.lanelets.proofs.Holds.{entry_positions}
 use Rattle.lane_paths.proofs.LinkLaws.{stepped_entry, stepped_points}
 use Rattle.lane_paths.proofs.RelaxLaws.{on_ok, places_on, step_none}
 use Rattle.lane_paths.proofs.links.relax_to.Goals as goal
@@ -18,6 +19,12 @@ returns-then-is_entry_done-clause-relaxes c = λ p i d w ahead.
     let search : ShortestLengths = c.args.search.now in
     stepped_points c.args.net.now p i d c.args.d search.count c.args.from.now at.net_cell entry search search c.requires.places.count_is w ahead at.cell_is at.cell_of.entry
     (step_none i (search.count + c.args.d) c.args.from.now.length c.args.from.now.shape (entry.0 ∷ entry.1 ∷ []) search (c.is_entry_done.ensures.yes c.if-is_entry_done.true))
+
+pub entry_of-requires-clause-left : goal.entry_of-requires-clause-left
+entry_of-requires-clause-left c = (entry_positions _ _ _ c.cell-cell.ensures.cell_of).0
+
+pub entry_of-requires-clause-right : goal.entry_of-requires-clause-right
+entry_of-requires-clause-right c = (entry_positions _ _ _ c.cell-cell.ensures.cell_of).1
 
 pub reach_entry-requires-clause-within : goal.reach_entry-requires-clause-within
 reach_entry-requires-clause-within c = let low = c.requires.within in let n = c.requires.places.count_is in omega (arith, low, n)

@@ -1,12 +1,8 @@
-use Rattle.std.proofs.Common.{◌≡◌, ◌≤◌, arith, subst, length, to_z, of_z, w64, List, Some, None, inl}
-use Rattle.std.specs.Prelude.{Option, nat_abs}
-use Rattle.std.specs.List.{AllByRecursion}
-use lib.Signed.{◌≤ℤ◌}
+use Rattle.std.proofs.Common.{arith, subst, Some, None, inl}
 use Rattle.spot_terms.specs.Clips.{IsClip}
-use Rattle.convex_poly.specs.Polygons.{IsPosition}
 use Rattle.convex_poly.proofs.Wide.{back}
-use Rattle.round_out.specs.Clips.{reflection, KeepsSide, StaysOnSide, GainsAtMostOne, StaysInBox}
-use Rattle.round_out.proofs.ClipCases.{AreOnSide, told_side, whole_clip, whole_box}
+use Rattle.round_out.specs.Clips.{reflection, KeepsSide, StaysOnSide}
+use Rattle.round_out.proofs.ClipCases.{AreOnSide, told_side, whole_clip}
 use Rattle.round_out.proofs.Reflections.{mirror}
 use Rattle.round_out.proofs.TwoClips.{second_part, second_keeps, second_in_box, second_few, once_few, clip_corners, still_on_side}
 use Rattle.round_out.proofs.parts.clip_twice.Goals as goal

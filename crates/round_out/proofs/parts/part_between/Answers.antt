@@ -1,6 +1,5 @@
-use Rattle.std.proofs.Common.{◌≡◌, ◌∷◌, [], neg_ℤ, subst, to_z, of_z, w64}
+use Rattle.std.proofs.Common.{◌∷◌, [], neg_ℤ, subst, to_z, of_z, w64}
 use Rattle.spot_terms.specs.Clips.{as_it_is, x_turned}
-use Rattle.spot_terms.specs.ClippedTo.{Side}
 use Rattle.convex_poly.proofs.Wide.{back}
 use Rattle.round_out.specs.Clips.{StaysOnSide}
 use Rattle.round_out.specs.Parts.{IsPart, KeepsParts}

@@ -1,4 +1,4 @@
-use Rattle.std.proofs.Common.{◌≡◌, ◌∷◌, [], subst, to_z, of_z, w64}
+use Rattle.std.proofs.Common.{◌∷◌, [], subst}
 use Rattle.spot_terms.specs.Clips.{swapped, turned_and_swapped}
 use Rattle.convex_poly.proofs.Wide.{back}
 use Rattle.round_out.specs.Clips.{StaysOnSide}

@@ -1,7 +1,7 @@
 use Rattle.std.proofs.Common.{ℕ, ◌+◌, List, subst, sym}
 use Rattle.spot_terms.specs.Gaps.{IsGap}
 use Rattle.spot_terms.specs.declared.plain.Pt.{Pt}
-use Rattle.lane_paths.specs.Boxes.{IsGapBound}
+use Rattle.lane_paths.specs.GapBounds.{IsGapBound}
 use Rattle.lane_paths.specs.Relaxations.{IsDone}
 use Rattle.lane_paths.proofs.GapBounds.{bound_one}
 use Rattle.lane_paths.proofs.RelaxLaws.{not_lesser}
