@@ -13,6 +13,7 @@ ghost use Rattle.base_sets.specs.Values.{AreBounds, AreBoxPlaces, AreTicks, IsBo
 
 use crate::ego::{EgoBounds, EgoStart};
 use acc_occupancy::{AccStart, reach_number};
+use spot_terms::MOST_STEPS;
 
 /// The widths of the columns and of the rows of a grid, in µm: each from 100,000 to 10^8.
 #[derive(Clone, Copy, Debug, PartialEq, Eq)]
@@ -58,7 +59,7 @@ pub fn outer_box(s: &EgoStart, e: &EgoBounds, k: u32, step: u32) -> OuterBox
     requires start { IsEgoStart s.now }
     requires bounds { AreBounds e.now }
     requires ticks { AreTicks k }
-    requires step { step ≤ 100 }
+    requires step { step ≤ MOST_STEPS }
     ensures exact { rect_of_box result ≡ courses.outer_box (start_with s.now e.now) (step * k) }
     ensures order { FitsBound s.now.b e.now.v → IsBoxInOrder result }
     ensures near { AreBoxPlaces 21_000_000_000_000 result }

@@ -1,5 +1,6 @@
 -- What a network keeps, beside the lanelets that it was built from.
 use Rattle.std.specs.Prelude.{◌≡◌, ℕ, ◌≤◌, List, Some, slice_get, length}
+use Rattle.spot_terms.specs.declared.limits.TheConstants.{MOST_CELLS}
 use Rattle.std.specs.List.{AllByRecursion}
 use Rattle.spot_terms.specs.Cells.{Lane, NetCell, cells}
 use Rattle.spot_terms.specs.Lists.{Pairwise}
@@ -18,7 +19,7 @@ use Rattle.lanelets.specs.Boxes.{AreBoxes}
 
 -- its cells, with the boxes round them, those ahead of each and their classes, and its lanelets
 pub record IsBuilt (lanes : List Lane) (made : List Placed) (boxes : List BoundingBox) (kept : List KeptLane) (next : List (List ℕ)) (classes : Classes) : Type 0 where
-  pub few : length (cells lanes) ≤ 100_000
+  pub few : length (cells lanes) ≤ MOST_CELLS
   pub placed : Pairwise (IsPlaced lanes) (cells lanes) made
   pub inside : AllByRecursion (λ (p : Placed). IsInside (length lanes) p.origin) made
   pub boxes_are : AreBoxes made boxes

@@ -17,7 +17,7 @@ use crate::numbers::{Numbers, list_at};
 use crate::portals::{first_portal, is_same_portal, last_portal};
 use crate::steps::{Joints, is_of_lane, joints_of, origin_at};
 use indexmap::IndexMap;
-use spot_terms::{Origin, RawLane};
+use spot_terms::{MOST_CELLS, Origin, RawLane};
 use std::alloc::{AllocError, Global};
 
 // Whether the lanelet at `f` begins where that at `e` ends.
@@ -134,7 +134,7 @@ pub(crate) fn ahead_of(
 ) -> Result<Vec<Numbers>, AllocError>
     requires buildable { AreBuildable lanes.now.entries }
     requires links { AreLinks lanes.now.entries links.now }
-    requires few { length cells.now ≤ 100_000 }
+    requires few { length cells.now ≤ MOST_CELLS }
     requires inside { AllByRecursion (λ p. IsInside (length lanes.now.entries) p.origin) cells.now }
     ensures { IfOk result (λ ahead. AreLists (IsAhead lanes.now.entries (net_of cells.now)) (length cells.now) ahead.items) }
 {

@@ -16,7 +16,7 @@ use crate::numbers::list_at;
 use crate::piece::hull_between;
 use crate::portals::{first_portal, is_same_portal, last_portal};
 use indexmap::IndexMap;
-use spot_terms::{Origin, Pt, RawLane};
+use spot_terms::{MOST_BYTES, Origin, Pt, RawLane};
 use std::alloc::AllocError;
 
 /// The lanelets that a bridge leads from and to, by their positions, and the id of the first.
@@ -93,7 +93,7 @@ fn bridge_count_from(lanes: &IndexMap<u32, RawLane>, from: u32, after: &[u32]) -
     requires within { from < length lanes.now.entries }
     requires after { Lists (IsFollowed lanes.now.entries from) after.now }
     ensures value { result ≡ length (bridges_of lanes.now.entries from) }
-    ensures few { result ≤ 67_108_864 }
+    ensures few { result ≤ MOST_BYTES }
 {
     let (_, lane) = lane_at(lanes, from);
     let entry = last_portal(lane);

@@ -23,11 +23,8 @@ use crate::nearby::nearby_of;
 use crate::network::Network;
 use crate::widths::first_wide;
 use indexmap::IndexMap;
-use spot_terms::RawLane;
+use spot_terms::{MOST_CELLS, RawLane};
 use std::alloc::{AllocError, Global};
-
-/// How many cells a network may have.
-const MOST_CELLS: u64 = 100_000;
 
 // All cells, of which there are `count`.
 fn cells_of(
@@ -57,7 +54,7 @@ fn network_of(
     requires buildable { AreBuildable lanes.now.entries }
     requires links { AreLinks lanes.now.entries links.now }
     requires count { count ≡ length (cells lanes.now.entries) }
-    requires few { length (cells lanes.now.entries) ≤ 100_000 }
+    requires few { length (cells lanes.now.entries) ≤ MOST_CELLS }
     ensures { IfOk result (λ network. network ≡ lanes.now.entries) }
 {
     let cells = cells_of(alloc, lanes, links, count)?;
@@ -82,7 +79,7 @@ pub fn build(alloc: Global, lanes: &IndexMap<u32, RawLane>) -> Result<Network, N
         return Err(NetFault::Memory);
     };
     let count = cell_count(lanes, &links);
-    if count > MOST_CELLS {
+    if count > u64::from(MOST_CELLS) {
         return Err(NetFault::TooManyCells(count));
     }
     if let Some(id) = first_wide(lanes) {

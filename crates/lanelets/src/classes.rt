@@ -17,6 +17,7 @@ use crate::nearby::Nearby;
 use crate::numbers::{Numbers, one_or_none};
 use crate::pairs::side_pairs;
 use std::alloc::{AllocError, Global};
+use spot_terms::MOST_CELLS;
 
 /// For each cell the number of its class, which is the least of the cells to which side moves lead from it, and for each
 /// number the cells of that class, in order.
@@ -44,7 +45,7 @@ fn class_numbers(
     lanes: &[KeptLane],
     nearby: &Nearby,
 ) -> Result<Vec<u32>, AllocError>
-    requires few { length cells.now ≤ 100_000 }
+    requires few { length cells.now ≤ MOST_CELLS }
     requires inside { AllByRecursion (λ p. IsInside (length lanes.now) p.origin) cells.now }
     requires kept { (every : List Lane) × AreKept every (net_of cells.now) lanes.now nearby.now }
     ensures { IfOk result (λ numbers. (every : List Lane) → AreKept every (net_of cells.now) lanes.now nearby.now → AreClassNumbers every (net_of cells.now) numbers.items) }
@@ -73,7 +74,7 @@ pub(crate) fn classes_of(
     lanes: &[KeptLane],
     nearby: &Nearby,
 ) -> Result<Classes, AllocError>
-    requires few { length cells.now ≤ 100_000 }
+    requires few { length cells.now ≤ MOST_CELLS }
     requires inside { AllByRecursion (λ p. IsInside (length lanes.now) p.origin) cells.now }
     requires kept { (every : List Lane) × AreKept every (net_of cells.now) lanes.now nearby.now }
     ensures { IfOk result (λ classes. (every : List Lane) → AreKept every (net_of cells.now) lanes.now nearby.now → AreClasses every (net_of cells.now) classes) }

@@ -12,12 +12,12 @@ use crate::links::Links;
 use crate::making::piece_at;
 use crate::piece::part_count;
 use indexmap::IndexMap;
-use spot_terms::RawLane;
+use spot_terms::{MOST_BYTES, RawLane};
 
 // The number of cells of a lanelet.
 fn part_count_of(lane: &RawLane) -> u64
     requires range { IsLaneInRange lane.now }
-    requires few { lane_size lane.now ≤ 67_108_864 }
+    requires few { lane_size lane.now ≤ MOST_BYTES }
     ensures value { (n : ℕ) → result ≡ length (cells_from n 0 lane.now.left lane.now.right) }
     ensures few { result ≤ 14_200_000 * lane_size lane.now }
 {

@@ -5,13 +5,13 @@ ghost use Rattle.spot_terms.specs.Ranges.{IsLaneInRange, lane_size};
 ghost use Rattle.lanelets.specs.Buildable.{AreBuildable};
 
 use indexmap::IndexMap;
-use spot_terms::RawLane;
+use spot_terms::{MOST_BYTES, RawLane};
 
 /// The number of lanelets.
 pub(crate) fn lane_count(lanes: &IndexMap<u32, RawLane>) -> u32
     requires { AreBuildable lanes.now.entries }
     ensures is { result ≡ length lanes.now.entries }
-    ensures few { result ≤ 67_108_864 }
+    ensures few { result ≤ MOST_BYTES }
 {
     lanes.len() as u32
 }
@@ -22,7 +22,7 @@ pub(crate) fn lane_at(lanes: &IndexMap<u32, RawLane>, e: u32) -> (u32, &RawLane)
     requires within { e < length lanes.now.entries }
     ensures is { slice_get lanes.now.entries e ≡ Some (result.0, result.1.now) }
     ensures range { IsLaneInRange result.1.now }
-    ensures few { lane_size result.1.now ≤ 67_108_864 }
+    ensures few { lane_size result.1.now ≤ MOST_BYTES }
 {
     let (id, lane) = lanes.get_index(e as usize).unwrap();
     (*id, lane)

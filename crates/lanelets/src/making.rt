@@ -11,7 +11,7 @@ use crate::cell::{Cell, Placed};
 use crate::lanes::{lane_at, lane_count};
 use crate::piece::{Piece, hull_between, part_count, portal};
 use indexmap::IndexMap;
-use spot_terms::{Origin, RawLane};
+use spot_terms::{MOST_BYTES, Origin, RawLane};
 use std::alloc::AllocError;
 
 /// A place in a lanelet: its position and id, and the number of the piece.
@@ -77,7 +77,7 @@ pub(crate) fn piece_at(lane: &RawLane, q: usize) -> Piece
 // Adds the cells of a lanelet.
 fn add_lane(made: &mut Vec<Placed>, lane: u32, id: u32, raw: &RawLane) -> Result<(), AllocError>
     requires range { IsLaneInRange raw.now }
-    requires few { length raw.now.left ≤ 67_108_864 }
+    requires few { length raw.now.left ≤ MOST_BYTES }
     ensures { OnOk result (Adds (IsMadeOf id) (cells_from lane 0 raw.now.left raw.now.right) made.old.items made.new.items) }
 {
     for q in 0..raw.left.list().len() - 1 {

@@ -15,7 +15,7 @@ use crate::links::places_of;
 use crate::numbers::{Numbers, list_at, one_or_none};
 use crate::steps::origin_at;
 use indexmap::IndexMap;
-use spot_terms::{Origin, RawLane};
+use spot_terms::{MOST_CELLS, Origin, RawLane};
 use std::alloc::{AllocError, Global};
 
 /// For each lanelet by its position the positions of those that it lists as neighbours or that list it, and the cells
@@ -77,7 +77,7 @@ pub(crate) fn lane_at_cell(cells: &[Placed], c: u32) -> Option<u32>
 
 // For each cell the lanelet that it is a part of.
 fn lane_rows(alloc: Global, cells: &[Placed]) -> Result<Vec<Numbers>, AllocError>
-    requires { length cells.now ≤ 100_000 }
+    requires { length cells.now ≤ MOST_CELLS }
     ensures { IfOk result (λ rows. AreRows (λ c e. IsOfLane (net_of cells.now) c e) (length cells.now) rows.items) }
 {
     let mut rows = Vec::new(alloc);
@@ -89,7 +89,7 @@ fn lane_rows(alloc: Global, cells: &[Placed]) -> Result<Vec<Numbers>, AllocError
 
 // For each of so many lanelets the cells that are parts of it.
 fn parts_of(alloc: Global, cells: &[Placed], count: u32) -> Result<Vec<Numbers>, AllocError>
-    requires few { length cells.now ≤ 100_000 }
+    requires few { length cells.now ≤ MOST_CELLS }
     requires inside { AllByRecursion (λ p. IsInside count p.origin) cells.now }
     ensures { IfOk result (λ parts. AreLists (λ e c. IsOfLane (net_of cells.now) c e) count parts.items) }
 {
@@ -119,7 +119,7 @@ pub(crate) fn piece_number(parts: &[Numbers], e: u32, piece: u32, count: u32) ->
 
 // The number of the piece that a cell is a part of.
 fn piece_at_cell(cells: &[Placed], parts: &[Numbers], c: u32) -> Option<u32>
-    requires few { length cells.now ≤ 100_000 }
+    requires few { length cells.now ≤ MOST_CELLS }
     requires inside { AllByRecursion (λ p. IsInside (length parts.now) p.origin) cells.now }
     requires within { c < length cells.now }
     ensures { (k : ℕ) → (result ≡ Some k) ↔ HasPieceNumber parts.now (net_of cells.now) c k }
@@ -138,7 +138,7 @@ fn piece_rows(
     cells: &[Placed],
     parts: &[Numbers],
 ) -> Result<Vec<Numbers>, AllocError>
-    requires few { length cells.now ≤ 100_000 }
+    requires few { length cells.now ≤ MOST_CELLS }
     requires inside { AllByRecursion (λ p. IsInside (length parts.now) p.origin) cells.now }
     ensures { IfOk result (λ rows. AreRows (λ c k. HasPieceNumber parts.now (net_of cells.now) c k) (length cells.now) rows.items) }
 {
@@ -151,7 +151,7 @@ fn piece_rows(
 
 // For each number of a piece the cells that are parts of that piece.
 fn pieces_of(alloc: Global, cells: &[Placed], parts: &[Numbers]) -> Result<Vec<Numbers>, AllocError>
-    requires few { length cells.now ≤ 100_000 }
+    requires few { length cells.now ≤ MOST_CELLS }
     requires inside { AllByRecursion (λ p. IsInside (length parts.now) p.origin) cells.now }
     ensures { IfOk result (λ pieces. AreLists (λ k c. HasPieceNumber parts.now (net_of cells.now) c k) (length cells.now) pieces.items) }
 {
@@ -167,7 +167,7 @@ pub(crate) fn nearby_of(
     cells: &[Placed],
 ) -> Result<Nearby, AllocError>
     requires buildable { AreBuildable lanes.now.entries }
-    requires few { length cells.now ≤ 100_000 }
+    requires few { length cells.now ≤ MOST_CELLS }
     requires inside { AllByRecursion (λ p. IsInside (length lanes.now.entries) p.origin) cells.now }
     ensures { IfOk result (λ nearby. IsNearby lanes.now.entries (net_of cells.now) nearby) }
 {

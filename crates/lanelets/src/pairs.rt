@@ -17,7 +17,7 @@ use crate::levels::Pair;
 use crate::nearby::{Nearby, lane_at_cell, piece_number};
 use crate::numbers::list_at;
 use crate::steps::origin_at;
-use spot_terms::Origin;
+use spot_terms::{MOST_CELLS, Origin};
 use std::alloc::{AllocError, Global};
 
 // Adds the pairs of a cell and each of the list that lies beside it.
@@ -53,7 +53,7 @@ fn candidates<'a>(
     c: u32,
     f: u32,
 ) -> &'a [u32]
-    requires few { length cells.now ≤ 100_000 }
+    requires few { length cells.now ≤ MOST_CELLS }
     requires inside { AllByRecursion (λ p. IsInside (length lanes.now) p.origin) cells.now }
     requires kept { (every : List Lane) × AreKept every (net_of cells.now) lanes.now nearby.now }
     requires within { c < length cells.now }
@@ -80,7 +80,7 @@ fn push_near(
     c: u32,
     near: &[u32],
 ) -> Result<(), AllocError>
-    requires few { length cells.now ≤ 100_000 }
+    requires few { length cells.now ≤ MOST_CELLS }
     requires inside { AllByRecursion (λ p. IsInside (length lanes.now) p.origin) cells.now }
     requires kept { (every : List Lane) × AreKept every (net_of cells.now) lanes.now nearby.now }
     requires within { c < length cells.now }
@@ -107,7 +107,7 @@ fn push_sides(
     nearby: &Nearby,
     c: u32,
 ) -> Result<(), AllocError>
-    requires few { length cells.now ≤ 100_000 }
+    requires few { length cells.now ≤ MOST_CELLS }
     requires inside { AllByRecursion (λ p. IsInside (length lanes.now) p.origin) cells.now }
     requires kept { (every : List Lane) × AreKept every (net_of cells.now) lanes.now nearby.now }
     requires within { c < length cells.now }
@@ -134,7 +134,7 @@ pub(crate) fn side_pairs(
     lanes: &[KeptLane],
     nearby: &Nearby,
 ) -> Result<Vec<Pair>, AllocError>
-    requires few { length cells.now ≤ 100_000 }
+    requires few { length cells.now ≤ MOST_CELLS }
     requires inside { AllByRecursion (λ p. IsInside (length lanes.now) p.origin) cells.now }
     requires kept { (every : List Lane) × AreKept every (net_of cells.now) lanes.now nearby.now }
     ensures { IfOk result (λ pairs. (every : List Lane) → AreKept every (net_of cells.now) lanes.now nearby.now → AreSidePairs every (net_of cells.now) pairs.items) }

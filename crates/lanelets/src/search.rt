@@ -9,7 +9,7 @@ ghost use Rattle.lanelets.specs.Boxes.{AreBoxes};
 
 use crate::cell::Placed;
 use convex_poly::{BoundingBox, Poly};
-use spot_terms::{Items, Pt};
+use spot_terms::{Items, MOST_CELLS, Pt};
 use std::alloc::{AllocError, Global};
 
 /// A list of numbers of cells.
@@ -30,7 +30,7 @@ pub(crate) fn cells_holding(
     boxes: &[BoundingBox],
     p: Pt,
 ) -> Result<CellList, AllocError>
-    requires few { length cells.now ≤ 100_000 }
+    requires few { length cells.now ≤ MOST_CELLS }
     requires boxes { AreBoxes cells.now boxes.now }
     ensures { IfOk result (λ list. Lists (HoldsAt cells.now p) list) }
 {

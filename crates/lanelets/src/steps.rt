@@ -9,7 +9,7 @@ ghost use Rattle.lanelets.specs.Steps.{net_of, HasOrigin, IsOfLane, LeadsTo, IsI
 use crate::cell::Placed;
 use crate::columns::columns_of;
 use crate::numbers::{Numbers, one_or_none};
-use spot_terms::Origin;
+use spot_terms::{MOST_CELLS, Origin};
 use std::alloc::{AllocError, Global};
 
 /// For each lanelet by its position the cells at which it ends, and the bridges that lead to it.
@@ -49,7 +49,7 @@ pub(crate) fn is_of_lane(cells: &[Placed], c: u32, e: u32) -> bool
 
 // The lanelet of which the cell is the last.
 fn ended_lane(cells: &[Placed], c: u32) -> Option<u32>
-    requires few { length cells.now ≤ 100_000 }
+    requires few { length cells.now ≤ MOST_CELLS }
     requires within { c < length cells.now }
     ensures { (e : ℕ) → (result ≡ Some e) ↔ EndsLane (net_of cells.now) c e }
 {
@@ -78,7 +78,7 @@ fn bridged_lane(cells: &[Placed], c: u32) -> Option<u32>
 
 // For each cell the lanelet that it ends.
 fn ended_lanes(alloc: Global, cells: &[Placed]) -> Result<Vec<Numbers>, AllocError>
-    requires { length cells.now ≤ 100_000 }
+    requires { length cells.now ≤ MOST_CELLS }
     ensures { IfOk result (λ rows. AreRows (λ c e. EndsLane (net_of cells.now) c e) (length cells.now) rows.items) }
 {
     let mut rows = Vec::new(alloc);
@@ -90,7 +90,7 @@ fn ended_lanes(alloc: Global, cells: &[Placed]) -> Result<Vec<Numbers>, AllocErr
 
 // For each cell the lanelet to which it leads as a bridge.
 fn bridged_lanes(alloc: Global, cells: &[Placed]) -> Result<Vec<Numbers>, AllocError>
-    requires { length cells.now ≤ 100_000 }
+    requires { length cells.now ≤ MOST_CELLS }
     ensures { IfOk result (λ rows. AreRows (λ c f. LeadsTo (net_of cells.now) c f) (length cells.now) rows.items) }
 {
     let mut rows = Vec::new(alloc);
@@ -102,7 +102,7 @@ fn bridged_lanes(alloc: Global, cells: &[Placed]) -> Result<Vec<Numbers>, AllocE
 
 /// The cells at which so many lanelets end, and the bridges that lead to them.
 pub(crate) fn joints_of(alloc: Global, cells: &[Placed], count: u32) -> Result<Joints, AllocError>
-    requires few { length cells.now ≤ 100_000 }
+    requires few { length cells.now ≤ MOST_CELLS }
     requires inside { AllByRecursion (λ p. IsInside count p.origin) cells.now }
     ensures { IfOk result (λ joints. AreJoints count (net_of cells.now) joints) }
 {

@@ -1,6 +1,7 @@
 -- What is read of a tree, and the checks of each element that is read. The refusal is the failing check at the least
 -- place, and at one place the first of the element's line.
 use Rattle.std.specs.Prelude.{◌≡◌, ◌⊎◌, ℕ, ◌*◌, ◌<◌, ◌≤◌, ◌^◌, List, [], ◌∷◌, ◌++◌, length, Bool, true, false, ◌||◌, ◌&&◌, ◌==◌, not, nat_lt, Option, Some, None, option_map, unwrap_or, is_none, flat_map, codes, ℤ, pos, neg_ℤ, nat_abs, IsTrue, count_by, ◌<ℤ◌, refl}
+use Rattle.spot_terms.specs.declared.limits.TheConstants.{MOST_OBSTACLES}
 use Rattle.std.specs.List.{list_all, list_any}
 use Rattle.std.specs.Str.{bytes_eq}
 use Rattle.spot_terms.specs.Lists.{At, Includes}
@@ -275,7 +276,7 @@ abbrev pub bound_point_line : Line
 bound_point_line = line (lanelets ∷ []) (left_point ∷ right_point ∷ []) x_and_y
 
 abbrev pub obstacle_line : Line
-obstacle_line = line obstacles here (only_one obstacles ++ too_many obstacles 4096 ∷ lacks_a_child (codes "shape" ∷ codes "initialState" ∷ []) ∷ [])
+obstacle_line = line obstacles here (only_one obstacles ++ too_many obstacles MOST_OBSTACLES ∷ lacks_a_child (codes "shape" ∷ codes "initialState" ∷ []) ∷ [])
 
 abbrev pub shape_line : Line
 shape_line = line obstacles (shape ∷ []) (lacks_each_child Missing (codes "rectangle" ∷ codes "circle" ∷ codes "polygon" ∷ []) ∷ [])

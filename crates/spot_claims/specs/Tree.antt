@@ -1,6 +1,7 @@
 -- The JSON reading of bytes, and the element tree of a JSON value: its elements in document order, or the first value
 -- that fails to be one.
 use Rattle.std.specs.Prelude.{◌≡◌, ℕ, ◌+◌, ◌<◌, ◌≤◌, ◌==◌, ◌&&◌, ◌||◌, Bool, true, false, nat_lt, List, [], ◌∷◌, ◌++◌, length, reverse, filter, flat_map, find, slice_index_or, if◌then◌else◌, Option, Some, None, option_map, codes, refl}
+use Rattle.spot_terms.specs.declared.limits.TheConstants.{MOST_BYTES}
 use Rattle.std.specs.List.{All}
 use Rattle.std.specs.Str.{IsUtf8, bytes_eq}
 use Rattle.spot_terms.specs.Lists.{AreDistinct}
@@ -211,7 +212,7 @@ all_children tree = flat_map (λ e. e.children) tree
 -- and rise; the first element is no child, and each other at most once
 pub record IsTree (tree : List Element) : Type 0 where
   pub some : 0 < length tree
-  pub few : length tree ≤ 67108864
+  pub few : length tree ≤ MOST_BYTES
   pub within : All (λ e. All (λ c. c < length tree) e.children) tree
   pub rising : All (λ e. Rising 0 e.children) tree
   pub once : AreDistinct (0 ∷ all_children tree)

@@ -6,6 +6,7 @@ ghost use Rattle.spot_io.specs.Reads.{ReadsAll};
 ghost use Rattle.spot_io.specs.Writes.{WritesText};
 
 use crate::{Sink, SinkFault, Source};
+use spot_terms::MOST_BYTES;
 use std::alloc::Global;
 
 /// Why reading stopped before the end.
@@ -19,16 +20,13 @@ pub enum ReadEnd {
     Memory,
 }
 
-// The most bytes that are read.
-const MOST_BYTES: usize = 67_108_864;
-
 // The most bytes that one call is asked for.
 const PIECE_BYTES: usize = 16_384;
 
 /// Reads all bytes up to the end of the source, 67,108,864 at most. Answers `Fault` only where the source's count of
 /// faults rose in this call, which it does at no other answer, and `TooLong` exactly where 67,108,865 bytes were taken; no more are ever taken.
 pub fn read_all<S: Source>(alloc: Global, source: &mut S) -> Result<Vec<u8>, ReadEnd>
-    ensures short { IfOk result (λ bytes. length bytes.items ≤ 67108864) }
+    ensures short { IfOk result (λ bytes. length bytes.items ≤ MOST_BYTES) }
     ensures told { ReadsAll (S.left source.old) (S.left source.new) result }
     ensures end { OnOk result (IsAtEnd (S.left source.new)) }
     ensures later { S.faults source.old ≤ S.faults source.new }

@@ -1,5 +1,6 @@
 -- What a run says of its answer, by how far it came.
 use Rattle.std.proofs.Common.{◌≡◌, ◌≢◌, ◌∙◌, ◌⊎◌, inl, inr, ℕ, ◌<◌, ◌≤◌, List, [], length, Option, Some, Err, refl, sym, ap, subst, arith}
+use Rattle.spot_terms.specs.declared.limits.TheConstants.{MOST_BYTES}
 use Rattle.std.specs.Prelude.{IfSome}
 use Rattle.spot_terms.specs.Causes.{Takes}
 use Rattle.spot_terms.specs.Ids.{HaveUniqueIds}
@@ -26,7 +27,7 @@ use Rattle.spot_claims.specs.Outputs.{IsWritten}
 use Rattle.spot_claims.specs.Profile.{IsAccepted, IsRefused}
 use Rattle.spot_claims.specs.Runs.{Run, ReadFails, WriteFails}
 use Rattle.spot_claims.specs.Scenario.{IsScenarioOf}
-use Rattle.spot_claims.specs.Stages.{most_bytes, AreNoCommand, AreForReading, IsRead, IsInput, IsAccepting, IsWithinTraffic}
+use Rattle.spot_claims.specs.Stages.{AreNoCommand, AreForReading, IsRead, IsInput, IsAccepting, IsWithinTraffic}
 use Rattle.spot_claims.specs.Tree.{Element, IsTreeOf, IsNoJson, HasFaultAt}
 use Rattle.spot_run.specs.Loads.{IsReadWhole, Loads, IsLoadFault}
 use Rattle.spot_run.specs.Writes.{WritesPrediction}
@@ -210,10 +211,10 @@ after_whole bytes left (Refused NotTree place) later loads = loads.0.1
 after_whole bytes left (Refused code place) later loads = loads.0.1
 after_whole bytes left status later loads = absurd loads
 
-too_many : (bytes : List ℕ) → length bytes ≤ most_bytes → most_bytes < length bytes → ⊥
+too_many : (bytes : List ℕ) → length bytes ≤ MOST_BYTES → MOST_BYTES < length bytes → ⊥
 too_many bytes few many = omega (arith, few, many)
 
-too_long_of : (run : Run) (bytes : List ℕ) (left : Option (List ℕ)) (status : Status) → AreForReading run → Loads bytes left (Err status) → IsLoadFault status → ExactlyWhere (AreForReading run × (most_bytes < length bytes)) (Limit TooLong 0 67108865) status
+too_long_of : (run : Run) (bytes : List ℕ) (left : Option (List ℕ)) (status : Status) → AreForReading run → Loads bytes left (Err status) → IsLoadFault status → ExactlyWhere (AreForReading run × (MOST_BYTES < length bytes)) (Limit TooLong 0 67108865) status
 too_long_of run bytes left ReadFault for h k = record { only = λ e. cc; comes = λ _. inr (inr refl) }
 too_long_of run bytes left Memory for h k = record { only = λ e. cc; comes = λ _. inr (inl refl) }
 too_long_of run bytes left (Limit TooLong step count) for h k = record { only = λ e. (for, h.0); comes = λ _. inl (rw (k.0, k.1) refl) }
@@ -230,7 +231,7 @@ not_refused : (bytes : List ℕ) (s : Scenario) (code : Code) (place : ℕ) → 
 not_refused bytes s code place (tree, tree_is, scenario) refused = not_both bytes tree code place tree_is scenario.accepted refused
 
 -- a fault of loading doesn't come where the bytes are those of a scenario
-outside_at : (bytes : List ℕ) (left : Option (List ℕ)) (tree : List Element) (status : Status) → Loads bytes left (Err status) → IsLoadFault status → length bytes ≤ most_bytes → IsTreeOf bytes tree → IsAccepted tree → IsOutside status
+outside_at : (bytes : List ℕ) (left : Option (List ℕ)) (tree : List Element) (status : Status) → Loads bytes left (Err status) → IsLoadFault status → length bytes ≤ MOST_BYTES → IsTreeOf bytes tree → IsAccepted tree → IsOutside status
 outside_at bytes left tree ReadFault h k few tree_is accepted = inr refl
 outside_at bytes left tree Memory h k few tree_is accepted = inl refl
 outside_at bytes left tree (Limit TooLong step count) h k few tree_is accepted = absurd (too_many bytes few h.0)
@@ -311,7 +312,7 @@ after_fault run c Cause answer h other = exactly_for run c Cause answer h.for (�
 
 -- what is said of the completion of the command that was read is said of each that the words stand for
 complete_for : (run : Run) (c : Command) → IsForPrediction run c
-    → ((bytes : List ℕ) (tree : List Element) → run.told ≡ Some bytes → length bytes ≤ most_bytes → IsTreeOf bytes tree → IsAccepted tree → ((s : Scenario) → IsScenarioOf bytes s → PassesAll s c) → (Fails run → ⊥) → IsDone run.status ⊎ (run.status ≡ Memory))
+    → ((bytes : List ℕ) (tree : List Element) → run.told ≡ Some bytes → length bytes ≤ MOST_BYTES → IsTreeOf bytes tree → IsAccepted tree → ((s : Scenario) → IsScenarioOf bytes s → PassesAll s c) → (Fails run → ⊥) → IsDone run.status ⊎ (run.status ≡ Memory))
     → Completes run
 complete_for run c for at = λ d bytes stands. subst (λ (x : Command). IsBuilt x.task → IsInput x run.told bytes → IsAcceptedInput x bytes → ((s : Scenario) → IsScenarioOf bytes s → PassesAll s x) → (Fails run → ⊥) → IsDone run.status ⊎ (run.status ≡ Memory))
     (sym (for.only d stands))

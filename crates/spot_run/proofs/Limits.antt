@@ -1,5 +1,6 @@
 -- When a run passes a limit.
 use Rattle.std.proofs.Common.{◌≡◌, ◌∙◌, ◌⊎◌, inl, inr, ℕ, ◌<◌, ◌≤◌, List, length, Option, Some, refl, sym, ap, subst, arith}
+use Rattle.spot_terms.specs.declared.limits.TheConstants.{MOST_LANE_POLYGONS}
 use Rattle.std.specs.Prelude.{slice_get}
 use Rattle.spot_terms.specs.Cells.{Lane, cells}
 use Rattle.spot_terms.specs.Limits.{IsTooWide, AreNarrowBelow, IsFirstWide, HasNetwork}
@@ -13,7 +14,7 @@ use Rattle.spot_terms.specs.declared.status.Status.TheVariants.{Open, Limit, Wri
 use Rattle.spot_terms.proofs.Orders.{below_or_at_least}
 use Rattle.spot_claims.specs.Answers.{ExactlyWhere, IsOutside, HasManyCells, HasWideLane, HasManyPairs, ExactlyFor, TooManyCellsExactly, LaneTooWideExactly, TooManyLanePolygonsExactly}
 use Rattle.spot_claims.specs.Runs.{Run}
-use Rattle.spot_claims.specs.Stages.{IsTold, IsAccepting, most_pairs}
+use Rattle.spot_claims.specs.Stages.{IsTold, IsAccepting}
 use Rattle.participants.proofs.OneNumber.{pairs_are_one}
 use Rattle.spot_run.specs.Writes.{IsPastLimit, WritesPrediction}
 use Rattle.spot_run.proofs.Runs.{IsForPrediction, HasLoaded, AreAlike, alike, reads_input, predicts, is_built, input_of, is_input, passes}
@@ -66,9 +67,9 @@ module _ (s : Scenario) (steps : ℕ) (before after : Option (List ℕ)) where
   wide_comes (Limit TooManyLanePolygons step n) id few first h = absurd (none_wide s.lanelets.entries id h.1 first)
   wide_comes status id few first h = absurd h
 
-  pairs_come : (status : Status) (count : ℕ) → HasNetwork s.lanelets.entries → HasPairs s steps count → most_pairs < count → WritesPrediction s steps before after status → (status ≡ Limit TooManyLanePolygons 0 count) ⊎ IsOutside status
-  pairs_come Open count network pairs many (o, predicted, app) = absurd (too_many count count most_pairs (predicted.pairs count pairs) refl many)
-  pairs_come WriteFault count network pairs many (o, predicted, app) = absurd (too_many count count most_pairs (predicted.pairs count pairs) refl many)
+  pairs_come : (status : Status) (count : ℕ) → HasNetwork s.lanelets.entries → HasPairs s steps count → MOST_LANE_POLYGONS < count → WritesPrediction s steps before after status → (status ≡ Limit TooManyLanePolygons 0 count) ⊎ IsOutside status
+  pairs_come Open count network pairs many (o, predicted, app) = absurd (too_many count count MOST_LANE_POLYGONS (predicted.pairs count pairs) refl many)
+  pairs_come WriteFault count network pairs many (o, predicted, app) = absurd (too_many count count MOST_LANE_POLYGONS (predicted.pairs count pairs) refl many)
   pairs_come Memory count network pairs many h = inr (inl refl)
   pairs_come (Limit TooManyCells step n) count network pairs many h = absurd (too_many (length (cells s.lanelets.entries)) n 100_000 network.few h.1 h.2)
   pairs_come (Limit LaneTooWide step id) count network pairs many h = absurd (none_wide s.lanelets.entries id network h.2)
@@ -76,11 +77,11 @@ module _ (s : Scenario) (steps : ℕ) (before after : Option (List ℕ)) where
   pairs_come status count network pairs many h = absurd h
 
 -- within the limits only memory can be wanted
-pub past_none : (s : Scenario) (steps : ℕ) (status : Status) → HasNetwork s.lanelets.entries → ((n : ℕ) → HasPairs s steps n → n ≤ most_pairs) → IsPastLimit s steps status → status ≡ Memory
+pub past_none : (s : Scenario) (steps : ℕ) (status : Status) → HasNetwork s.lanelets.entries → ((n : ℕ) → HasPairs s steps n → n ≤ MOST_LANE_POLYGONS) → IsPastLimit s steps status → status ≡ Memory
 past_none s steps Memory network pairs h = refl
 past_none s steps (Limit TooManyCells step n) network pairs h = absurd (too_many (length (cells s.lanelets.entries)) n 100_000 network.few h.1 h.2)
 past_none s steps (Limit LaneTooWide step id) network pairs h = absurd (none_wide s.lanelets.entries id network h.2)
-past_none s steps (Limit TooManyLanePolygons step n) network pairs h = absurd (too_many n n most_pairs (pairs n h.2) refl h.3)
+past_none s steps (Limit TooManyLanePolygons step n) network pairs h = absurd (too_many n n MOST_LANE_POLYGONS (pairs n h.2) refl h.3)
 past_none s steps status network pairs h = absurd h
 
 -- ---- after a prediction

@@ -1,5 +1,6 @@
 -- Of a tree: a check's code, and what loading says of it.
 use Rattle.std.proofs.Common.{◌≡◌, ◌∙◌, ℕ, zero, suc, ◌≤◌, List, [], ◌∷◌, length, Option, Some, None, Result, Ok, Err, sym, subst}
+use Rattle.spot_terms.specs.declared.limits.TheConstants.{MOST_BYTES}
 use Rattle.std.specs.Prelude.{IfOk, IfErr}
 use Rattle.std.specs.List.{AllByRecursion}
 use Rattle.spot_terms.specs.Lists.{At}
@@ -13,7 +14,6 @@ use Rattle.spot_claims.specs.Tree.{Element, IsTreeOf}
 use Rattle.spot_claims.specs.Scenario.{IsScenario}
 use Rattle.spot_claims.specs.Profile.{Line, Check, code_of, profile, IsRefused}
 use Rattle.spot_claims.specs.Answers.{IsOfCheck}
-use Rattle.spot_claims.specs.Stages.{most_bytes}
 use Rattle.std.specs.declared.vec.Vec.{Vec}
 use Rattle.std.specs.declared.alloc.Global.{Global}
 use Rattle.spot_io.specs.Reads.{ReadsAll}
@@ -66,9 +66,9 @@ loads_all bytes left tree (Ok s) whole tree_is scenario none = (whole, (tree, tr
 loads_all bytes left tree (Err status) whole tree_is scenario none = loads_none bytes left tree status whole tree_is none
 
 -- the told bytes were read whole, and are those of the tree
-pub read_whole : (told left : Option (List ℕ)) (v : Vec ℕ Global) (bytes : List ℕ) → told ≡ Some bytes → length v.items ≤ most_bytes → ReadsAll told left (Ok v) → IsReadWhole bytes left
+pub read_whole : (told left : Option (List ℕ)) (v : Vec ℕ Global) (bytes : List ℕ) → told ≡ Some bytes → length v.items ≤ MOST_BYTES → ReadsAll told left (Ok v) → IsReadWhole bytes left
 read_whole None left v bytes e few reads = cc
-read_whole (Some all) left v bytes e few reads = let same : all ≡ bytes = cc in (subst (λ (b : List ℕ). length b ≤ most_bytes) (reads.0 ∙ same) few, reads.1)
+read_whole (Some all) left v bytes e few reads = let same : all ≡ bytes = cc in (subst (λ (b : List ℕ). length b ≤ MOST_BYTES) (reads.0 ∙ same) few, reads.1)
 
 pub read_bytes : (told left : Option (List ℕ)) (v : Vec ℕ Global) (bytes : List ℕ) (tree : List Element) → told ≡ Some bytes → ReadsAll told left (Ok v) → IsTreeOf v.items tree → IsTreeOf bytes tree
 read_bytes None left v bytes tree e reads is = cc

@@ -1,5 +1,6 @@
 -- What a run says, from what its parts say.
 use Rattle.std.proofs.Common.{◌≡◌, ◌∙◌, ℕ, ◌≤◌, List, [], ◌∷◌, ◌++◌, length, Option, Some, None, refl, sym, ap, subst, append-nil}
+use Rattle.spot_terms.specs.declared.limits.TheConstants.{MOST_BYTES}
 use Rattle.std.specs.Prelude.{IfSome, IfNone}
 use Rattle.std.specs.Io.KnownBytes.{Appends}
 use Rattle.std.proofs.lemmas.List.{append_cancel_left}
@@ -33,7 +34,7 @@ use Rattle.spot_claims.specs.Outputs.{IsOutputOf, IsOutput, IsWritten, status_of
 use Rattle.spot_claims.specs.ParticipantClaims.{HoldsTick, IsAdmissible, IsCovered, CoversMover, CoversParticipants}
 use Rattle.spot_claims.specs.Runs.{Run, WriteFails}
 use Rattle.spot_claims.specs.Scenario.{IsScenario, IsScenarioOf}
-use Rattle.spot_claims.specs.Stages.{IsInputOf, IsInput, PassesToNetwork, IsWithinTraffic, IsWithinLimits, most_bytes, AreForReading}
+use Rattle.spot_claims.specs.Stages.{IsInputOf, IsInput, PassesToNetwork, IsWithinTraffic, IsWithinLimits, AreForReading}
 use Rattle.participants.specs.Predictions.{Occupancies}
 use Rattle.spot_run.specs.Lines.{traffic_lines, prediction_lines}
 use Rattle.spot_run.specs.Loads.{IsReadWhole}
@@ -84,10 +85,10 @@ module _ (c : Command) (task : c.task ≡ Predict) where
   pub is_built_whole : IsBuiltWhole c.task
   is_built_whole = subst IsBuiltWhole (sym task) tt
 
-  pub input_of : (told : Option (List ℕ)) (bytes : List ℕ) → IsInput c told bytes → (told ≡ Some bytes) × (length bytes ≤ most_bytes)
+  pub input_of : (told : Option (List ℕ)) (bytes : List ℕ) → IsInput c told bytes → (told ≡ Some bytes) × (length bytes ≤ MOST_BYTES)
   input_of told bytes h = subst (λ (t : Task). IsInputOf t c told bytes) task h
 
-  pub is_input : (told : Option (List ℕ)) (bytes : List ℕ) → told ≡ Some bytes → length bytes ≤ most_bytes → IsInput c told bytes
+  pub is_input : (told : Option (List ℕ)) (bytes : List ℕ) → told ≡ Some bytes → length bytes ≤ MOST_BYTES → IsInput c told bytes
   is_input told bytes e few = subst (λ (t : Task). IsInputOf t c told bytes) (sym task) (e, few)
 
   pub passes : (s : Scenario) → PassesToNetwork s c

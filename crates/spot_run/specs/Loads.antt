@@ -1,5 +1,6 @@
 -- What loading a scenario from a source answers.
 use Rattle.std.specs.Prelude.{◌≡◌, ◌<◌, ◌≤◌, List, ℕ, [], length, Option, Some, Result, Ok, Err}
+use Rattle.spot_terms.specs.declared.limits.TheConstants.{MOST_BYTES}
 use Rattle.spot_terms.specs.Causes.{Takes}
 use Rattle.spot_terms.specs.declared.scenario.Scenario.{Scenario}
 use Rattle.spot_terms.specs.declared.status.Status.{Status}
@@ -10,18 +11,17 @@ use Rattle.spot_claims.specs.Tree.{Element, IsNoJson, HasFaultAt}
 use Rattle.spot_claims.specs.Profile.{IsRefused}
 use Rattle.spot_claims.specs.Scenario.{IsScenarioOf}
 use Rattle.spot_claims.specs.Answers.{IsRefusedAt, IsOfCheck}
-use Rattle.spot_claims.specs.Stages.{most_bytes}
 
 -- all of the told bytes were read, and they are few enough
 abbrev pub IsReadWhole : List ℕ → Option (List ℕ) → Type 0
-IsReadWhole bytes left = (length bytes ≤ most_bytes) × (left ≡ Some [])
+IsReadWhole bytes left = (length bytes ≤ MOST_BYTES) × (left ≡ Some [])
 
 -- of told bytes: their scenario, or why there is none
 abbrev pub Loads : List ℕ → Option (List ℕ) → Result Scenario Status → Type 0
 Loads bytes left (Ok s) = IsReadWhole bytes left × IsScenarioOf bytes s
 Loads bytes left (Err ReadFault) = Unit {0}
 Loads bytes left (Err Memory) = Unit {0}
-Loads bytes left (Err (Limit TooLong step count)) = (most_bytes < length bytes) × Takes 67108865 bytes left
+Loads bytes left (Err (Limit TooLong step count)) = (MOST_BYTES < length bytes) × Takes 67108865 bytes left
 Loads bytes left (Err (Refused NotJson place)) = IsReadWhole bytes left × IsNoJson bytes
 Loads bytes left (Err (Refused NotTree place)) = IsReadWhole bytes left × HasFaultAt bytes place
 Loads bytes left (Err (Refused code place)) = IsReadWhole bytes left × IsRefusedAt bytes code place

@@ -1,5 +1,6 @@
 -- What writing the report of a prediction asks of the sink, and what it answers.
 use Rattle.std.specs.Prelude.{◌≡◌, ℕ, ◌<◌, ◌≤◌, List, Some, length, Option}
+use Rattle.spot_terms.specs.declared.limits.TheConstants.{MOST_CELLS, MOST_LANE_POLYGONS}
 use Rattle.std.specs.Io.KnownBytes.{Appends}
 use Rattle.std.specs.List.{AllByRecursion}
 use Rattle.spot_terms.specs.Causes.{AppendsFront}
@@ -11,7 +12,7 @@ use Rattle.spot_terms.specs.declared.scenario.Scenario.{Scenario}
 use Rattle.spot_terms.specs.declared.status.Status.{Status}
 use Rattle.spot_terms.specs.declared.status.Status.TheVariants.{Open, Limit, WriteFault, Memory}
 use Rattle.spot_terms.specs.declared.status.Which.TheVariants.{TooManyCells, LaneTooWide, TooManyLanePolygons}
-use Rattle.spot_claims.specs.Stages.{most_pairs}
+
 use Rattle.participants.specs.Predictions.{HoldsMotions, Occupancies, IsPrediction}
 use Rattle.spot_run.specs.Lines.{prediction_lines}
 
@@ -21,15 +22,15 @@ report_of s steps o = report_text (prediction_lines s.step steps s.movers o)
 -- the prediction of a scenario within the limits, whose lane polygons hold what they should
 pub record IsPredicted (s : Scenario) (steps : ℕ) (o : Occupancies) : Type 0 where
   pub network : HasNetwork s.lanelets.entries
-  pub pairs : (n : ℕ) → HasPairs s steps n → n ≤ most_pairs
+  pub pairs : (n : ℕ) → HasPairs s steps n → n ≤ MOST_LANE_POLYGONS
   pub is : IsPrediction s steps o
   pub holds : AllByRecursion (λ p. HoldsMotions s.lanelets.entries s.step steps p) o.participants
 
 -- why a scenario has no prediction: the limit that it passes; want of memory may come at any time
 abbrev pub IsPastLimit : Scenario → ℕ → Status → Type 0
-IsPastLimit s steps (Limit TooManyCells step count) = (step ≡ 0) × (count ≡ length (cells s.lanelets.entries)) × (100_000 < count)
-IsPastLimit s steps (Limit LaneTooWide step id) = (step ≡ 0) × (length (cells s.lanelets.entries) ≤ 100_000) × IsFirstWide s.lanelets.entries (Some id)
-IsPastLimit s steps (Limit TooManyLanePolygons step count) = (step ≡ 0) × HasNetwork s.lanelets.entries × HasPairs s steps count × (most_pairs < count)
+IsPastLimit s steps (Limit TooManyCells step count) = (step ≡ 0) × (count ≡ length (cells s.lanelets.entries)) × (MOST_CELLS < count)
+IsPastLimit s steps (Limit LaneTooWide step id) = (step ≡ 0) × (length (cells s.lanelets.entries) ≤ MOST_CELLS) × IsFirstWide s.lanelets.entries (Some id)
+IsPastLimit s steps (Limit TooManyLanePolygons step count) = (step ≡ 0) × HasNetwork s.lanelets.entries × HasPairs s steps count × (MOST_LANE_POLYGONS < count)
 IsPastLimit s steps Memory = Unit {0}
 IsPastLimit s steps status = ⊥
 

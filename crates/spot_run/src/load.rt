@@ -10,7 +10,7 @@ ghost use Rattle.spot_run.specs.Loads.{Loads, IsLoadFault, HasNone};
 
 use scenario::{ReadFault, read_scenario};
 use spot_io::{ReadEnd, Source, read_all};
-use spot_terms::{Code, Scenario, Status, Which};
+use spot_terms::{Code, MOST_BYTES, Scenario, Status, Which};
 use spot_tree::{Tree, TreeFault, read_tree};
 use std::alloc::Global;
 
@@ -43,7 +43,7 @@ pub fn load<S: Source>(alloc: Global, source: &mut S) -> Result<Scenario, Status
     let bytes = match read_all(alloc, source) {
         Ok(bytes) => bytes,
         Err(ReadEnd::Fault) => return Err(Status::ReadFault),
-        Err(ReadEnd::TooLong) => return Err(Status::Limit(Which::TooLong, 0, 67_108_865)),
+        Err(ReadEnd::TooLong) => return Err(Status::Limit(Which::TooLong, 0, MOST_BYTES as u64 + 1)),
         Err(ReadEnd::Memory) => return Err(Status::Memory),
     };
     let tree = match read_tree(alloc, &bytes) {

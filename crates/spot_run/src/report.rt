@@ -12,7 +12,7 @@ ghost use Rattle.spot_run.specs.Writes.{report_of};
 use convex_poly::OctNumbers;
 use participants::{LanePoly, Participant, Prediction};
 use spot_io::{Sink, SinkFault};
-use spot_terms::{End, Mode, Mover, MoverLine, Scenario};
+use spot_terms::{End, MOST_STEPS, Mode, Mover, MoverLine, Scenario};
 use text_report::{
     write_end, write_fixed, write_head, write_lane, write_late, write_mover, write_occ, write_time,
 };
@@ -90,7 +90,7 @@ fn write_lanes<K: Sink>(sink: &mut K, participants: &[Participant]) -> Result<()
 
 // The octagons of one participant, by interval.
 fn write_intervals<K: Sink>(sink: &mut K, id: u32, octagons: &[OctNumbers]) -> Result<(), SinkFault>
-    requires few { length octagons.now ≤ 100 }
+    requires few { length octagons.now ≤ MOST_STEPS }
     requires room { K.takes sink.old (length (report_text (octagon_lines id 0 octagons.now))) }
     ensures { WritesText K.Sink sink.old sink.new (report_text (octagon_lines id 0 octagons.now)) result }
 {
@@ -102,7 +102,7 @@ fn write_intervals<K: Sink>(sink: &mut K, id: u32, octagons: &[OctNumbers]) -> R
 
 // The octagons of the participants.
 fn write_occupancies<K: Sink>(sink: &mut K, participants: &[Participant]) -> Result<(), SinkFault>
-    requires few { AllByRecursion (λ p. length p.octs ≤ 100) participants.now }
+    requires few { AllByRecursion (λ p. length p.octs ≤ MOST_STEPS) participants.now }
     requires room { K.takes sink.old (length (report_text (flat_map occupancy_lines participants.now))) }
     ensures { WritesText K.Sink sink.old sink.new (report_text (flat_map occupancy_lines participants.now)) result }
 {
@@ -130,7 +130,7 @@ fn write_front<K: Sink>(
 
 // The lines of the participants' lane polygons and octagons, and the end.
 fn write_back<K: Sink>(sink: &mut K, participants: &[Participant]) -> Result<(), SinkFault>
-    requires few { AllByRecursion (λ p. length p.octs ≤ 100) participants.now }
+    requires few { AllByRecursion (λ p. length p.octs ≤ MOST_STEPS) participants.now }
     requires room { K.takes sink.old (length (report_text (back_lines participants.now))) }
     ensures { WritesText K.Sink sink.old sink.new (report_text (back_lines participants.now)) result }
 {
@@ -148,7 +148,7 @@ pub fn write_prediction<K: Sink>(
     steps: u32,
 ) -> Result<(), SinkFault>
     requires enough { length (starting scenario.now.movers) ≤ length prediction.now.participants }
-    requires few { AllByRecursion (λ p. length p.octs ≤ 100) prediction.now.participants }
+    requires few { AllByRecursion (λ p. length p.octs ≤ MOST_STEPS) prediction.now.participants }
     requires room { K.takes sink.old (length (report_of scenario.now steps prediction.now)) }
     ensures { WritesText K.Sink sink.old sink.new (report_of scenario.now steps prediction.now) result }
 {

@@ -19,7 +19,7 @@ use crate::report::write_prediction;
 use lanelets::{NetFault, Network, build};
 use participants::{PredictFault, Prediction, predict};
 use spot_io::{Sink, Source};
-use spot_terms::{Code, Scenario, Status, Task, Which};
+use spot_terms::{Code, MOST_STEPS, Scenario, Status, Task, Which};
 use spot_words::read_words;
 use std::alloc::Global;
 
@@ -41,14 +41,11 @@ fn network_of(alloc: Global, scenario: &Scenario) -> Result<Network, Status>
 fn prediction_of(alloc: Global, scenario: &Scenario, steps: u32) -> Result<Prediction, Status>
     requires range { IsInRange scenario.now }
     requires lanes { AreBuildable scenario.now.lanelets.entries }
-    requires steps { steps ≤ 100 }
+    requires steps { steps ≤ MOST_STEPS }
     ensures ok { IfOk result (λ p. IsPredicted scenario.now steps p) }
     ensures err { IfErr result (λ status. IsPastLimit scenario.now steps status) }
 {
-    let net = match network_of(alloc, scenario) {
-        Ok(net) => net,
-        Err(status) => return Err(status),
-    };
+    let net = network_of(alloc, scenario)?;
     match predict(alloc, scenario, &net, steps) {
         Ok(prediction) => Ok(prediction),
         Err(PredictFault::TooManyLanePolygons(count)) => {
@@ -62,7 +59,7 @@ fn prediction_of(alloc: Global, scenario: &Scenario, steps: u32) -> Result<Predi
 fn write_report<K: Sink>(alloc: Global, scenario: &Scenario, steps: u32, sink: &mut K) -> Status
     requires range { IsInRange scenario.now }
     requires lanes { AreBuildable scenario.now.lanelets.entries }
-    requires steps { steps ≤ 100 }
+    requires steps { steps ≤ MOST_STEPS }
     requires room { TakesPrediction scenario.now steps (λ n. K.takes sink.old n) }
     ensures report { WritesPrediction scenario.now steps (K.written sink.old) (K.written sink.new) result }
     ensures kept { (IsWritten result → ⊥) → sink.new ≡ sink.old }

@@ -1,5 +1,6 @@
 -- The limits within which lanelets have a network.
 use Rattle.std.specs.Prelude.{◌≡◌, ◌⊎◌, ℕ, ◌<◌, ◌≤◌, nat_abs, ◌-ℤ◌, List, Option, Some, None, slice_get, length}
+use Rattle.spot_terms.specs.declared.limits.TheConstants.{MOST_CELLS}
 use Rattle.spot_terms.specs.Cells.{Pair, Lane, cells}
 use Rattle.spot_terms.specs.declared.scenario.RawLane.{RawLane}
 
@@ -22,5 +23,5 @@ IsFirstWide lanes (Some id) = (e : ℕ) × (l : Lane) × (slice_get lanes e ≡ 
 
 -- at most 100,000 cells, and no lanelet is too wide
 pub record HasNetwork (lanes : List Lane) : Type 0 where
-  pub few : length (cells lanes) ≤ 100_000
+  pub few : length (cells lanes) ≤ MOST_CELLS
   pub narrow : AreNarrowBelow lanes (length lanes)

@@ -1,5 +1,6 @@
 -- The ranges of values that are handed to calls.
 use Rattle.std.specs.Prelude.{◌≡◌, ℕ, ℤ, ◌≤◌, ◌+◌, List, [], ◌∷◌, length, pos, ◌≤ℤ◌}
+use Rattle.spot_terms.specs.declared.limits.TheConstants.{MOST_BYTES, MOST_OBSTACLES, MOST_STEPS}
 use Rattle.std.specs.List.{AllByRecursion}
 use Rattle.spot_terms.specs.Whole.{Within, SizeAtMost}
 use Rattle.spot_terms.specs.declared.command.Command.{Command}
@@ -84,7 +85,7 @@ pub record IsLaneInRange (l : RawLane) : Type 0 where
 pub record IsInRange (s : Scenario) : Type 0 where
   pub step_low : 1 ≤ s.step
   pub step_high : s.step ≤ 1000
-  pub few : length s.movers + length s.fixed ≤ 4096
+  pub few : length s.movers + length s.fixed ≤ MOST_OBSTACLES
   pub movers : AllByRecursion IsMoverInRange s.movers
   pub fixed : AllByRecursion IsFixedInRange s.fixed
   pub problems : AllByRecursion IsProblemInRange s.problems
@@ -107,14 +108,14 @@ lanes_size (l ∷ ls) = lane_size l.1 + lanes_size ls
 
 -- recorded states and problems together, and points and references of all lanelets together
 pub record IsFew (s : Scenario) : Type 0 where
-  pub recorded : recorded_count s.movers + length s.problems ≤ 67_108_864
-  pub lanes : lanes_size s.lanelets.entries ≤ 67_108_864
+  pub recorded : recorded_count s.movers + length s.problems ≤ MOST_BYTES
+  pub lanes : lanes_size s.lanelets.entries ≤ MOST_BYTES
 
 -- ---- commands
 
 -- the numbers of a command; the wanted id is any that its type has
 pub record IsCommandInRange (c : Command) : Type 0 where
-  pub steps : (1 ≤ c.steps) × (c.steps ≤ 100)
+  pub steps : (1 ≤ c.steps) × (c.steps ≤ MOST_STEPS)
   pub ego_acc : (1 ≤ c.ego_acc) × (c.ego_acc ≤ 20)
   pub ego_speed : (1 ≤ c.ego_speed) × (c.ego_speed ≤ 100)
   pub ego_length : (100 ≤ c.ego_length) × (c.ego_length ≤ 20_000)
