@@ -12,6 +12,7 @@ use Rattle.spot_terms.specs.Reach.{along}
 use Rattle.spot_terms.specs.Whole.{greatest, least}
 use Rattle.convex_poly.specs.Polygons.{IsPolygon, IsPosition}
 use Rattle.spot_terms.proofs.Supports.{supports_are}
+use Rattle.convex_poly.proofs.RunRows.{before_x}
 
 least_same : (z : ℤ) (xs : List ℤ) → AllByRecursion (λ x. z ≤ℤ x) xs → least z xs ≡ z
 least_same z [] h = refl
@@ -21,11 +22,7 @@ least_same z (x ∷ xs) h =
 
 all_east : (a : Pt) (rest : List Pt) → AllByRecursion (Before a) rest → AllByRecursion (λ x. a.x ≤ℤ x) (map (λ d. d.x) rest)
 all_east a [] h = tt
-all_east a (b ∷ rest) h = (east a b h.0, all_east a rest h.1)
-  where
-    east : (a b : Pt) → Before a b → a.x ≤ℤ b.x
-    east a b (inl l) = omega (arith, ints, l)
-    east a b (inr e) = omega (arith, ints, e.0)
+all_east a (b ∷ rest) h = (before_x a b h.0, all_east a rest h.1)
 
 pub first_place : (vs us : List Pt) (d : Pt) → us ≡ vs → IsPolygon vs → to_z w64 (of_z w64 (get_or us 0 d).x) ≡ least_place vs
 first_place vs us d e h = subst (λ (z : List Pt). to_z w64 (of_z w64 (get_or z 0 d).x) ≡ least_place vs) (sym e) (at vs h.convex h.positions)

@@ -5,7 +5,7 @@ use Rattle.std.proofs.lemmas.Int.{ints}
 use Rattle.spot_terms.specs.Whole.{Within, count_between, quotient_floor}
 use Rattle.spot_terms.proofs.QuotientBounds.{floor_between}
 use Rattle.spot_terms.proofs.Quotients.{quotient_floor-is}
-use Rattle.spot_terms.proofs.Orders.{natural_of}
+use Rattle.spot_terms.proofs.Orders.{natural_of, at_most_trans}
 
 pub record AreSlots (p q : ℤ) : Type 0 where
   pub low : nat_abs q ≤ 400_000_000
@@ -18,7 +18,7 @@ slots_are w lo hi h o l u =
     let low = floor_between lo w (negsuc 399_999_999) (pos 400_000_000) some (least w lo h.low l) (most w lo h.low l) in
     let high = floor_between hi w (negsuc 399_999_999) (pos 400_000_000) some (least w hi h.low u) (most w hi h.low u) in
     let is = quotient_floor-is lo w some in
-    let order = floor_between hi w (quotient_floor lo w) (pos 400_000_000) some (trans _ lo hi is.product_le o) (most w hi h.low u) in
+    let order = floor_between hi w (quotient_floor lo w) (pos 400_000_000) some (at_most_trans _ lo hi is.product_le o) (most w hi h.low u) in
     record { low = size _ low.low low.high; high = size _ high.low high.high; order = order.low }
   where
     least : (w z : ℤ) → pos 100_000 ≤ℤ w → nat_abs z ≤ 40_000_000_000_000 → (negsuc 399_999_999 *ℤ w) ≤ℤ z
@@ -26,9 +26,6 @@ slots_are w lo hi h o l u =
 
     most : (w z : ℤ) → pos 100_000 ≤ℤ w → nat_abs z ≤ 40_000_000_000_000 → z ≤ℤ (pos 400_000_000 *ℤ w)
     most w z h k = omega (arith, ints)
-
-    trans : (a b c : ℤ) → a ≤ℤ b → b ≤ℤ c → a ≤ℤ c
-    trans a b c p q = omega (arith, ints)
 
     size : (z : ℤ) → negsuc 399_999_999 ≤ℤ z → z ≤ℤ pos 400_000_000 → nat_abs z ≤ 400_000_000
     size z h k = omega (arith, ints)

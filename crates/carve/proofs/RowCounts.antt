@@ -15,7 +15,8 @@ use Rattle.spot_terms.specs.Whole.{count_between, quotient_floor}
 use Rattle.spot_terms.proofs.Quotients.{product_le_at, next_product_gt_at, below_factor}
 use Rattle.spot_terms.proofs.Ring.{spread_left}
 use Rattle.carve.specs.RowSums.{sum_rows, RowsAreBoxes}
-use Rattle.spot_terms.proofs.Orders.{at_most_true, above_false}
+use Rattle.spot_terms.proofs.Orders.{at_most_true, above_false, below_next}
+use Rattle.carve.proofs.Shared.{not_shared}
 
 -- ---- sums over rows
 
@@ -110,9 +111,6 @@ high_slot g r wide = slot_one g r (slot_high g r) wide (omega (arith, ints, wide
 shared : (g : ℤ) (s t : ℤ × ℤ) → s.0 ≤ℤ s.1 → t.0 ≤ℤ t.1 → slots_shared g s t ≡ count_between (int_max (slot g s.0) (slot g t.0)) (int_min (slot g s.1) (slot g t.1))
 shared g s t h k = rw (at_most_true s.0 s.1 h, at_most_true t.0 t.1 k) refl
 
-not_shared : (g : ℤ) (s t : ℤ × ℤ) → s.1 <ℤ s.0 → slots_shared g s t ≡ 0
-not_shared g s t h = rw (above_false s.0 s.1 h) refl
-
 row_shared : (g : ℤ) (s : ℤ × ℤ) (r : ℤ) → pos 0 <ℤ g → s.0 ≤ℤ s.1 → slots_shared g s (slot_low g r, slot_high g r) ≡ count_between (int_max (slot g s.0) r) (int_min (slot g s.1) r)
 row_shared g s r wide h =
     shared g s (slot_low g r, slot_high g r) h (omega (arith, ints, wide))
@@ -131,13 +129,10 @@ pub slots_rise : (g a b : ℤ) → pos 0 <ℤ g → a ≤ℤ b → slot g a ≤�
 slots_rise g a b wide h =
     let low = product_le_at a g (slot g a) wide refl in
     let high = next_product_gt_at b g (slot g b) wide refl in
-    upto (slot g a) (slot g b) (below_factor (slot g a) (slot g b +ℤ pos 1) g wide (through low h high))
+    below_next (slot g a) (slot g b) (below_factor (slot g a) (slot g b +ℤ pos 1) g wide (through low h high))
   where
     through : {a b c d : ℤ} → a ≤ℤ b → b ≤ℤ c → c <ℤ d → a <ℤ d
     through h k l = omega (arith, ints, h, k, l)
-
-    upto : (p q : ℤ) → p <ℤ (q +ℤ pos 1) → p ≤ℤ q
-    upto p q h = omega (arith, ints, h)
 
 met_rows : (m n : ℤ) (c : ℕ) → m ≤ℤ n → Counts m n c → n +ℤ pos 1 ≡ m +ℤ pos c
 met_rows m n c h (inl z) = omega (arith, ints, h, z.0, z.1)

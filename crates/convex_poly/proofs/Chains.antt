@@ -90,7 +90,7 @@ pub record Loop (kx ky : ℤ) (there back vs : List Pt) : Type 0 where
   pub low_at : (k : ℕ) (d : Pt) → k < length there → get_or vs k d ≡ get_or there k d
   pub high_at : (k j : ℕ) (d : Pt) → j ≡ length there + k → k + 2 < length back → get_or vs j d ≡ get_or back (k + 1) d
 
-lt_turn : (a b c : Pt) → pos 0 <ℤ cross a b c → pos 0 <ℤ cross b c a
+pub lt_turn : (a b c : Pt) → pos 0 <ℤ cross a b c → pos 0 <ℤ cross b c a
 lt_turn a b c h = subst (λ z. pos 0 <ℤ z) (cross_turn a b c) h
 
 module _ (kx ky : ℤ) (s : List Pt) (turns : TurnsLeft s) where

@@ -9,6 +9,7 @@ use Rattle.convex_poly.specs.Turns.{cross, TurnsLeft}
 use Rattle.convex_poly.proofs.Crosses.{cross_turn}
 use Rattle.convex_poly.proofs.Corners.{IsBeside}
 use Rattle.spot_terms.proofs.Places.{same_index, all_by_index, compare3}
+use Rattle.convex_poly.proofs.Chains.{lt_turn}
 
 -- the first point is before each other one
 abbrev pub StartsFirst : List Pt → Type 0
@@ -21,14 +22,11 @@ all_edges P first (a ∷ []) h k = (k 0 a (omega arith), tt)
 all_edges P first (a ∷ b ∷ vs) h k =
     (h 0 a (omega arith), all_edges P first (b ∷ vs) (λ i d l. h (suc i) d (omega arith)) (λ i d e. k (suc i) d (omega arith)))
 
-turned : (a b c : Pt) → pos 0 <ℤ cross a b c → pos 0 <ℤ cross b c a
-turned a b c h = subst (λ z. pos 0 <ℤ z) (cross_turn a b c) h
-
 beside_next : (vs : List Pt) → TurnsLeft vs → (i : ℕ) (d : Pt) → suc i < length vs → (k : ℕ) (e : Pt) → k < length vs → IsBeside (get_or vs k e) (get_or vs i d, get_or vs (suc i) d)
 beside_next vs t i d h k e l =
     subst (λ z. IsBeside z (get_or vs i d, get_or vs (suc i) d)) (same_index vs k k d e l refl)
     (compare3 k i
-    (λ less. inr (inr (turned (get_or vs k d) (get_or vs i d) (get_or vs (suc i) d) (t k i (suc i) d less (omega arith) h))))
+    (λ less. inr (inr (lt_turn (get_or vs k d) (get_or vs i d) (get_or vs (suc i) d) (t k i (suc i) d less (omega arith) h))))
     (λ same. inl (ap (λ n. get_or vs n d) same))
     (λ more. compare3 k (suc i)
     (λ less. absurd (omega arith))
@@ -40,7 +38,7 @@ beside_closing vs t i d h k e l =
     subst (λ z. IsBeside z (get_or vs i d, get_or vs 0 d)) (same_index vs k k d e l refl)
     (compare3 k i
     (λ less. compare3 0 k
-    (λ between. inr (inr (turned (get_or vs k d) (get_or vs i d) (get_or vs 0 d) (turned (get_or vs 0 d) (get_or vs k d) (get_or vs i d) (t 0 k i d between less (omega arith))))))
+    (λ between. inr (inr (lt_turn (get_or vs k d) (get_or vs i d) (get_or vs 0 d) (lt_turn (get_or vs 0 d) (get_or vs k d) (get_or vs i d) (t 0 k i d between less (omega arith))))))
     (λ same. inr (inl (ap (λ n. get_or vs n d) (sym same))))
     (λ never. absurd (omega arith)))
     (λ same. inl (ap (λ n. get_or vs n d) same))

@@ -7,6 +7,7 @@ use Rattle.spot_terms.specs.declared.plain.Pt.{Pt}
 use Rattle.spot_terms.specs.Hull.{Before, IsHullOf}
 use Rattle.spot_terms.specs.Lists.{Includes}
 use Rattle.spot_terms.proofs.Hulls.{hull_included}
+use Rattle.spot_terms.proofs.OneHull.{same_pt}
 
 -- two corners, the first of which comes before the other
 pub two_corners : (a b : Pt) → Before a b → (p q : Pt) → (p ≡ a) ⊎ (p ≡ b) → (q ≡ a) ⊎ (q ≡ b) → ((a ≡ p) ⊎ (a ≡ q)) → ((b ≡ p) ⊎ (b ≡ q)) → IsHullOf (p ∷ q ∷ []) (a ∷ b ∷ [])
@@ -30,14 +31,11 @@ even z w h k = omega (arith, ints)
 pin : (z w : ℤ) → (z <ℤ w → ⊥) → (w <ℤ z → ⊥) → z ≡ w
 pin z w h k = by_lt_z z w (λ l. absurd (h l)) (λ not_less. by_lt_z w z (λ l. absurd (k l)) (λ not_more. even z w not_less not_more))
 
-same : (a b : Pt) → a.x ≡ b.x → a.y ≡ b.y → a ≡ b
-same a b e f = subst (λ (x : ℤ). a ≡ record { x = x; y = b.y }) e (subst (λ (y : ℤ). a ≡ record { x = a.x; y = y }) f refl)
-
 -- of two points neither comes before the other
 pub same_point : (p q : Pt) → (Before p q → ⊥) → (Before q p → ⊥) → q ≡ p
 same_point p q h k =
     let level : q.x ≡ p.x = pin q.x p.x (λ l. k (inl l)) (λ l. h (inl l)) in
-    same q p level (pin q.y p.y (λ l. k (inr (level, l))) (λ l. h (inr (sym level, l))))
+    same_pt q p level (pin q.y p.y (λ l. k (inr (level, l))) (λ l. h (inr (sym level, l))))
 
 pub one_corner : (p q : Pt) → q ≡ p → IsHullOf (p ∷ q ∷ []) (p ∷ [])
 one_corner p q e = record {

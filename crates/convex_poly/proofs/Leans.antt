@@ -12,10 +12,7 @@ use Rattle.convex_poly.specs.Vectors.{minus, turn_of, inner_product}
 use Rattle.spot_terms.proofs.ListLemmas.{includes_at}
 use Rattle.spot_terms.proofs.Orders.{below_or_here, equal_of_difference, negative_clash, not_positive_of_opposite, opposite_not_negative, opposite_of_negative, opposite_times, opposites_times, sum_not_negative, times_opposite, times_zero, zero_not_negative, zero_not_positive, zero_times, product_not_negative, factor_not_negative, positive_not_negative, product_positive}
 use Rattle.spot_terms.proofs.Places.{same_index, place_of}
-
-leftwards_turn : (v r : Pt) → IsLeftwards v r → pos 0 ≤ℤ turn_of v r
-leftwards_turn v r (inl h) = positive_not_negative (turn_of v r) h
-leftwards_turn v r (inr h) = zero_not_negative (turn_of v r) h.0
+use Rattle.convex_poly.proofs.Pivots.{turn_back, turn_ok}
 
 abbrev turn_exp : Exp → Exp → Exp → Exp → Exp
 turn_exp ax ay bx by = (ax ⊗ by) ⊖ (ay ⊗ bx)
@@ -69,21 +66,18 @@ not_none v c l = by_lt_z (pos 0) (inner_product v v) (λ h. h) (λ h. absurd (el
     along_flat : (v c : Pt) → v.x ≡ pos 0 → v.y ≡ pos 0 → inner_product v c ≡ pos 0
     along_flat v c e f = ap (λ z. (z *ℤ c.x) +ℤ (v.y *ℤ c.y)) e ∙ ap (λ z. (pos 0 *ℤ c.x) +ℤ (z *ℤ c.y)) f ∙ none_sum c.x c.y
 
-turn_back : (c r : Pt) → turn_of r c ≡ pos 0 -ℤ turn_of c r
-turn_back c r = ring (c.x ∷ c.y ∷ r.x ∷ r.y ∷ []) (turn_exp (var 2) (var 3) (var 0) (var 1)) (num (pos 0) ⊖ turn_exp (var 0) (var 1) (var 2) (var 3)) refl
-
 -- r is right of c, so what isn't right of c isn't right of r
 further_right : (v c r s : Pt) → IsLeftwards v c → IsLeftwards v r → IsLeftwards v s → turn_of c r <ℤ pos 0 → pos 0 ≤ℤ turn_of c s → pos 0 ≤ℤ turn_of r s
 further_right v c r s (inl h) lr ls right keep =
     factor_not_negative (turn_of v c) (turn_of r s) h (subst (λ z. pos 0 ≤ℤ z) (sym (four_turns v c r s))
-    (sum_not_negative (turn_of v r *ℤ turn_of c s) (turn_of v s *ℤ turn_of r c) (product_not_negative (turn_of v r) (turn_of c s) (leftwards_turn v r lr) keep)
-    (product_not_negative (turn_of v s) (turn_of r c) (leftwards_turn v s ls) (flipped (turn_of c r) (turn_of r c) (turn_back c r) right))))
+    (sum_not_negative (turn_of v r *ℤ turn_of c s) (turn_of v s *ℤ turn_of r c) (product_not_negative (turn_of v r) (turn_of c s) (turn_ok v r lr) keep)
+    (product_not_negative (turn_of v s) (turn_of r c) (turn_ok v s ls) (flipped (turn_of c r) (turn_of r c) (turn_back c r) right))))
   where
     flipped : (z w : ℤ) → w ≡ pos 0 -ℤ z → z <ℤ pos 0 → pos 0 ≤ℤ w
     flipped z w e h = omega (arith, ints)
 further_right v c r s (inr h) lr ls right keep =
     absurd (negative_clash (turn_of c r) right (factor_not_negative (inner_product v v) (turn_of c r) (not_none v c (inr h)) (subst (λ z. pos 0 ≤ℤ z) (sym (turn_by v c r))
-    (apart (inner_product v c *ℤ turn_of v r) (turn_of v c) (inner_product v r) h.0 (product_not_negative (inner_product v c) (turn_of v r) (positive_not_negative (inner_product v c) h.1) (leftwards_turn v r lr))))))
+    (apart (inner_product v c *ℤ turn_of v r) (turn_of v c) (inner_product v r) h.0 (product_not_negative (inner_product v c) (turn_of v r) (positive_not_negative (inner_product v c) h.1) (turn_ok v r lr))))))
   where
     lose : (p a : ℤ) → pos 0 ≤ℤ p → pos 0 ≤ℤ (p -ℤ (pos 0 *ℤ a))
     lose p a h = omega (arith, ints)

@@ -22,6 +22,7 @@ use Rattle.convex_poly.proofs.Crosses.{cross_exp}
 use Rattle.spot_terms.proofs.Places.{place_of, same_index}
 use Rattle.convex_poly.proofs.Sides.{middle_toward, toward_flat, toward_included}
 use Rattle.spot_terms.proofs.OneHull.{same_pt}
+use Rattle.convex_poly.proofs.Pivots.{turn_back}
 
 pub add_swap : (p q : Pt) → add_pt p q ≡ add_pt q p
 add_swap p q = same_pt (add_pt p q) (add_pt q p) (sum_swap p.x q.x) (sum_swap p.y q.y)
@@ -78,9 +79,6 @@ turn_on kx ky s q p m n qs pm mn h turn =
     not_below_part _ (key kx ky m -ℤ key kx ky p) (difference_positive _ _ pm)
     (subst (λ z. pos 0 ≤ℤ z) (sym (turn_sum kx ky s q p m n))
     (sum_not_negative _ _ (product_not_negative _ _ h (positive_not_negative _ (difference_positive _ _ mn))) (product_not_negative _ _ turn (positive_not_negative _ (difference_positive _ _ qs)))))
-
-turn_back : (u v : Pt) → turn_of v u ≡ pos 0 -ℤ turn_of u v
-turn_back u v = ring (u.x ∷ u.y ∷ v.x ∷ v.y ∷ []) ((var 2 ⊗ var 1) ⊖ (var 3 ⊗ var 0)) (num (pos 0) ⊖ ((var 0 ⊗ var 3) ⊖ (var 1 ⊗ var 2))) refl
 
 -- two ways that are not left of a third, one after the other
 turn_joined : (p m n s q : Pt) → pos 0 ≤ℤ turn_of (minus m p) (minus s q) → pos 0 ≤ℤ turn_of (minus n m) (minus s q) → pos 0 ≤ℤ turn_of (minus n p) (minus s q)

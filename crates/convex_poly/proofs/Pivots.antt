@@ -41,7 +41,7 @@ record Leaning (p : Pt) (ws : List ℕ) (vs : List Pt) : Type 0 where
   turns : pos 0 ≤ℤ weighted (turn_of p) ws vs
   rises : weighted (turn_of p) ws vs ≡ pos 0 → (0 < total ws vs → pos 0 <ℤ weighted (inner_product p) ws vs) × (pos 0 ≤ℤ weighted (inner_product p) ws vs)
 
-turn_ok : (p r : Pt) → IsLeftwards p r → pos 0 ≤ℤ turn_of p r
+pub turn_ok : (p r : Pt) → IsLeftwards p r → pos 0 ≤ℤ turn_of p r
 turn_ok p r (inl h) = positive_not_negative (turn_of p r) h
 turn_ok p r (inr h) = zero_not_negative (turn_of p r) h.0
 
@@ -106,7 +106,7 @@ against vs p r ip ir z h =
     go nz = let k : pos 0 ≤ℤ inner_product p p = sum_not_negative (p.x *ℤ p.x) (p.y *ℤ p.y) (square_not_negative p.x) (square_not_negative p.y) in
         meets_of vs p r r (pos 0 -ℤ inner_product p r) (pos 0 -ℤ (pos 0 -ℤ inner_product p p)) (pos 0 -ℤ pos 0) ip ir ir flipped (opposite_not_negative (inner_product p r) h) (twice (inner_product p p) k) (omega (arith, ints)) (signs (inner_product p r) (inner_product p p) h k nz)
 
-turn_back : (p r : Pt) → turn_of r p ≡ pos 0 -ℤ turn_of p r
+pub turn_back : (p r : Pt) → turn_of r p ≡ pos 0 -ℤ turn_of p r
 turn_back p r = ring (p.x ∷ p.y ∷ r.x ∷ r.y ∷ []) ((var 2 ⊗ var 1) ⊖ (var 3 ⊗ var 0)) (num (pos 0) ⊖ ((var 0 ⊗ var 3) ⊖ (var 1 ⊗ var 2))) refl
 
 -- s is left of p, r is right of p, and s is right of r

@@ -22,7 +22,7 @@ use Rattle.spot_terms.proofs.OneHull.{same_pt}
 
 -- ---- one and two corners
 
-before_x : (a b : Pt) → Before a b → a.x ≤ℤ b.x
+pub before_x : (a b : Pt) → Before a b → a.x ≤ℤ b.x
 before_x a b (inl h) = weaken a.x b.x h
 before_x a b (inr h) = equal_at_most a.x b.x h.0
 

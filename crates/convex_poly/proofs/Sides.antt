@@ -15,6 +15,7 @@ use Rattle.spot_terms.proofs.Hulls.{mix_hull, hull_mix_at, mix_hull_at}
 use Rattle.spot_terms.proofs.Orders.{difference_of_below, natural_of, opposite_not_negative}
 use Rattle.spot_terms.proofs.Places.{all_map}
 use Rattle.convex_poly.specs.Chains.{key, Toward}
+use Rattle.spot_terms.proofs.Segments.{above_times, sum_of}
 
 -- weighted points of vs that are q, moved t / w along (gx, gy)
 record TowardMix (gx gy : ℤ) (vs : List Pt) (q : Pt) : Type 0 where
@@ -118,19 +119,12 @@ mixed_both_sides gx gy hx hy vs q ex ey a b = pick a.t b.t refl refl
         ap (λ z. (t *ℤ ((v *ℤ x) +ℤ (s *ℤ g))) +ℤ (s *ℤ ((w *ℤ x) +ℤ (t *ℤ z)))) e
         ∙ ring (s ∷ t ∷ v ∷ w ∷ x ∷ g ∷ []) ((var 1 ⊗ ((var 2 ⊗ var 4) ⊕ (var 0 ⊗ var 5))) ⊕ (var 0 ⊗ ((var 3 ⊗ var 4) ⊕ (var 1 ⊗ (num (pos 0) ⊖ var 5))))) (((var 1 ⊗ var 2) ⊕ (var 0 ⊗ var 3)) ⊗ var 4) refl
 
-    sum_some : (a b c d : ℕ) → 0 < b → 0 < d → 0 < a + c → 0 < a * b + c * d
-    sum_some zero b (suc c) (suc d) h k g = omega arith
-    sum_some (suc a) (suc b) c d h k g = omega arith
-    sum_some zero b zero d h k g = absurd (omega arith)
-    sum_some zero b (suc c) zero h k g = absurd (omega arith)
-    sum_some (suc a) zero c d h k g = absurd (omega arith)
-
     at_rest : (w x t g : ℤ) → t ≡ pos 0 → (w *ℤ x) +ℤ (t *ℤ g) ≡ w *ℤ x
     at_rest w x t g e = rw e (omega (arith, ints))
 
     joined : 0 < b.t + a.t → InHull vs q
     joined some =
-        mix_hull vs q (b.t * a.w + a.t * b.w) (sum_some b.t a.w a.t b.w a.some b.some some)
+        mix_hull vs q (b.t * a.w + a.t * b.w) (above_times b.t a.w a.t b.w a.some b.some some)
         (mix_to vs _ _ _ _ _ _ refl
         (mean (pos a.t) (pos b.t) (pos a.w) (pos b.w) q.x gx hx ex)
         (mean (pos a.t) (pos b.t) (pos a.w) (pos b.w) q.y gy hy ey)
@@ -147,9 +141,6 @@ mixed_middle_toward kx ky vs a b c hasA hasC ab bc turn =
   where
     some_of : (s : ℕ) (r : ℕ) (z w : ℤ) → z <ℤ w → w -ℤ z ≡ pos s → 0 < s * 1 + r * 1
     some_of s r z w h e = omega (arith, ints)
-
-    sum_of : (s r : ℕ) → pos (s * 1 + r * 1) ≡ pos s +ℤ pos r
-    sum_of s r = omega (arith, ints)
 
     as_exp : Exp → Exp → Exp → Exp → Exp → Exp → Exp
     as_exp ax ay bx by cx cy = ((bx ⊖ ax) ⊗ (cy ⊖ ay)) ⊖ ((by ⊖ ay) ⊗ (cx ⊖ ax))

@@ -7,13 +7,12 @@ use Rattle.spot_terms.specs.Directions.{denominator, factorial, IsWithinOne, lea
 use Rattle.heading.proofs.Terms.{factorial_pos}
 use Rattle.heading.proofs.Sums.{IsSumOf}
 use Rattle.spot_terms.proofs.Readings.{ten_pos}
+use Rattle.spot_terms.proofs.Orders.{negative_times}
+use Rattle.spot_terms.proofs.Mixes.{positive_times}
 
 pub denominator_pos : 0 < denominator
 unfolding denominator
-denominator_pos = product_pos (10 ^ 240) (factorial 40) (ten_pos 240) (factorial_pos 40)
-  where
-    product_pos : (x y : ℕ) → 0 < x → 0 < y → 0 < x * y
-    product_pos x y p q = grind arith
+denominator_pos = positive_times (10 ^ 240) (factorial 40) (ten_pos 240) (factorial_pos 40)
 
 pub opposite : (c p : ℤ) (slack : ℕ) → IsSumOf c p slack → IsSumOf (neg_ℤ c) (neg_ℤ p) slack
 opposite c p slack h = record { under = omega (arith, ints, products, h.over); over = omega (arith, ints, products, h.under) }
@@ -28,9 +27,6 @@ scaled_by n c p slack h =
       under = rw (left, right, room) (omega (arith, ints, products, scaled_order n _ _ h.under));
       over = rw (left, right, room) (omega (arith, ints, products, scaled_order n _ _ h.over));
     }
-
-negative_times : (m : ℕ) (c : ℤ) → negsuc m *ℤ c ≡ neg_ℤ (pos (suc m) *ℤ c)
-negative_times m c = omega (arith, ints)
 
 -- the speed's multiple of the two
 pub scaled : (s c p : ℤ) (slack : ℕ) → IsSumOf c p slack → IsSumOf (s *ℤ c) (s *ℤ p) (nat_abs s * slack)

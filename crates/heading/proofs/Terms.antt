@@ -5,6 +5,7 @@ use Rattle.std.proofs.lemmas.Nat.{pow-add, mul-pow}
 use Rattle.std.proofs.lemmas.Bool.{cases_lt}
 use Rattle.spot_terms.specs.Directions.{factorial, rough_term, denominator}
 use Rattle.spot_terms.proofs.Readings.{ten_pos}
+use Rattle.spot_terms.proofs.Mixes.{positive_times}
 
 pub factorial_pos : (n : ℕ) → 0 < factorial n
 unfolding factorial
@@ -75,10 +76,7 @@ scale-zero (suc (suc n)) h = absurd (omega arith)
 
 pub scale_pos : (odd k : ℕ) → 0 < scale odd k
 unfolding scale
-scale_pos odd k = product_pos (10 ^ (12 * k)) (factorial (2 * k + odd)) (ten_pos (12 * k)) (factorial_pos (2 * k + odd))
-  where
-    product_pos : (x y : ℕ) → 0 < x → 0 < y → 0 < x * y
-    product_pos x y p q = grind arith
+scale_pos odd k = positive_times (10 ^ (12 * k)) (factorial (2 * k + odd)) (ten_pos (12 * k)) (factorial_pos (2 * k + odd))
 
 quotient_bounds : (x m : ℕ) → 0 < m → (x / m * m ≤ x) × (x < (x / m + 1) * m)
 quotient_bounds x m h = omega arith

@@ -22,6 +22,7 @@ use Rattle.lane_occupancy.proofs.Follows.{StandsAt, stands_at, label_reached}
 use Rattle.lane_occupancy.proofs.HullSums.{hull_sums}
 use Rattle.lane_occupancy.proofs.Paces.{reach_length_le}
 use Rattle.lane_occupancy.proofs.Unrefuted.{least_of}
+use Rattle.spot_terms.proofs.Orders.{natural_trans}
 
 -- ---- the body in the polygon of its cell
 
@@ -67,13 +68,10 @@ module _ (lanes : List Lane) (s : AccStart) (speed k steps : ℕ) where
   stands_reached : (t i : ℕ) (q : Pt) (w : StandsAt lanes s.p (reach_of s speed t) q) → t ≤ (i + 1) * k → i < steps → (IsReached lanes s speed k steps w.cell → ⊥) → ⊥
   stands_reached t i q w tick early refuse =
       w.route (λ route. least_of (IsRoute lanes s.p w.cell) route.0 route.1 (λ label.
-      let near : label.0 ≤ reach_of s speed ((i + 1) * k) = reach_within t i label.0 tick (le label.0 route.0 (reach_of s speed t) label.2 route.2) in
+      let near : label.0 ≤ reach_of s speed ((i + 1) * k) = reach_within t i label.0 tick (natural_trans label.0 route.0 (reach_of s speed t) label.2 route.2) in
       least_of (λ j. label.0 ≤ reach_of s speed ((j + 1) * k)) i near (λ first.
       refuse (first.0, (label.0, label.1, first.1), below first.0 first.2))))
     where
-      le : (x y z : ℕ) → x ≤ y → y ≤ z → x ≤ z
-      le x y z g h = omega arith
-
       below : (j : ℕ) → j ≤ i → j < steps
       below j e = omega arith
 

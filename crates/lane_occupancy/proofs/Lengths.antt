@@ -12,6 +12,7 @@ use Rattle.spot_terms.proofs.Products.{at_most_root, square_not_negative, square
 use Rattle.spot_terms.proofs.Ring.{ring, var, num, ◌⊕◌, ◌⊖◌, ◌⊗◌}
 use Rattle.spot_terms.proofs.Roots.{root_order}
 use Rattle.lane_occupancy.specs.Laws.{ArePieces}
+use Rattle.spot_terms.proofs.Orders.{pos_injective}
 
 -- ---- two vectors and their sum
 
@@ -54,12 +55,9 @@ sum_long u t x y W V e f =
 
 times_square : (k : ℕ) (a : ℤ) → square (pos k *ℤ a) ≡ (k * k) * square a
 times_square k a =
-    whole (square (pos k *ℤ a)) ((k * k) * square a)
+    pos_injective (square (pos k *ℤ a)) ((k * k) * square a)
     (sym (square_of_size (pos k *ℤ a)) ∙ ring (pos k ∷ a ∷ []) ((var 0 ⊗ var 1) ⊗ (var 0 ⊗ var 1)) ((var 0 ⊗ var 0) ⊗ (var 1 ⊗ var 1)) refl
     ∙ ap (λ z. (pos k *ℤ pos k) *ℤ z) (square_of_size a))
-  where
-    whole : (m n : ℕ) → pos m ≡ pos n → m ≡ n
-    whole m n e = omega (arith, ints, e)
 
 scale_long : (k : ℕ) (a b : ℤ) (W : ℕ) → square a + square b ≤ W * W → square (pos k *ℤ a) + square (pos k *ℤ b) ≤ (k * W) * (k * W)
 scale_long k a b W h = plain (square a) (square b) _ _ (times_square k a) (times_square k b) h

@@ -2,7 +2,7 @@
 use Rattle.std.proofs.Common.{◌≡◌, ◌∙◌, ℕ, ◌+◌, ◌*◌, ◌≤◌, ◌<◌, arith, refl, sym, ap, List, [], ◌∷◌, ◌++◌, take, length, slice_index_or, mul-le-mul}
 use Rattle.std.proofs.lemmas.List.{append-nil, append_assoc, length-append, length-take-le, take_more, take_all}
 use Rattle.spot_terms.specs.declared.plain.Pt.{Pt}
-use Rattle.spot_terms.proofs.Orders.{natural_weaken}
+use Rattle.spot_terms.proofs.Orders.{natural_weaken, factor_order}
 use Rattle.convex_poly.specs.Pivots.{each_minus, differences}
 use Rattle.convex_poly.specs.Vectors.{minus}
 
@@ -52,11 +52,8 @@ differences_more before now a b i d h e f =
 pub differences_room : (now a b : List Pt) (i room : ℕ) → i < length a → length a * length b ≤ room → now ≡ differences (take i a) b → length now + length b ≤ room
 differences_room now a b i room h few e =
     let so_far : length now ≡ i * length b = ap length e ∙ length-differences (take i a) b ∙ ap (λ (n : ℕ). n * length b) (length-take-le i a (natural_weaken i (length a) h)) in
-    let all : (i + 1) * length b ≤ length a * length b = grow (i + 1) (length a) (length b) (omega (arith, h)) in
+    let all : (i + 1) * length b ≤ length a * length b = factor_order (i + 1) (length a) (length b) (omega (arith, h)) in
     omega (arith, so_far, all, few)
-  where
-    grow : (x y u : ℕ) → x ≤ y → x * u ≤ y * u
-    grow x y u k = grind (arith, mul-le-mul)
 
 -- some vectors from some points to some points
 pub differences_some : (a b : List Pt) → 0 < length a → 0 < length b → 0 < length (differences a b)

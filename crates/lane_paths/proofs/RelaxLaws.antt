@@ -12,6 +12,7 @@ use Rattle.lane_paths.specs.declared.shortest_lengths.Waypoint.{Waypoint}
 use Rattle.lane_paths.specs.Edges.{Edge, HasAtMost, sum_of}
 use Rattle.lane_paths.specs.Relaxations.{HasPlaces, IsDone, IsNotLesser, Relaxes, StepsTo, size_of}
 use Rattle.spot_terms.proofs.ItemPlaces.{get_set_either}
+use Rattle.spot_terms.proofs.Orders.{natural_trans}
 
 -- ---- the sum of the lengths
 
@@ -70,11 +71,8 @@ relaxes_then P Q R m a b c g h first then back = record {
   ];
   waits = λ x i. h.waits x (g.waits x i);
   within = λ x i. elim (h.within x i) [ inl j ↦ g.within x j | inr l ↦ inr (subst (λ (z : ℕ). x.1 < z) g.count_same l) ];
-  smaller = let l = g.smaller in let k = h.smaller in below (size_of c) (size_of b) (size_of a) k l;
+  smaller = let l = g.smaller in let k = h.smaller in natural_trans (size_of c) (size_of b) (size_of a) k l;
 }
-  where
-    below : (x y z : ℕ) → x ≤ y → y ≤ z → x ≤ z
-    below x y z k l = omega arith
 
 -- the same in other words
 pub relaxes_as : (P Q : Edge → Type 0) (m : ℕ) (before after : ShortestLengths) → Relaxes P m before after → ((e : Edge) → P e → Q e) → ((e : Edge) → Q e → P e) → Relaxes Q m before after

@@ -20,6 +20,7 @@ use Rattle.lanelets.specs.Made.{IsCellOf, IsPlaced}
 use Rattle.lanelets.proofs.NumberLists.{lists_as}
 use Rattle.lanelets.proofs.Places.{partner_at, same_at, same_lengths}
 use Rattle.spot_terms.proofs.ItemPlaces.{got_below, item_at}
+use Rattle.lanelets.proofs.Nearness.{position}
 
 -- the cell that was read
 pub holds_read : (made : List Placed) (p : Pt) (k : ℕ) (x : Placed) → k < length made → (HoldsAt made p k ↔ InHull (slice_index_or made k x).cell.poly p)
@@ -44,11 +45,8 @@ holding_is lanes made p xs b = lists_as (HoldsAt made p) (IsStartCell lanes p) x
 
 -- ---- a point of a cell is a position
 
-near_position : (u : Pt) → IsNear u → IsPosition u
-near_position u n = record { x = omega (arith, n.x); y = omega (arith, n.y) }
-
 pub in_position : (corners : List Pt) (p : Pt) → AllByRecursion IsNear corners → InHull corners p → IsPosition p
-in_position corners p near i = position_in corners p (all_map IsNear IsPosition near_position corners near) i
+in_position corners p near i = position_in corners p (all_map IsNear IsPosition position corners near) i
 
 pub start_position : (lanes : List Lane) (made : List Placed) (p : Pt) (c : ℕ) → Pairwise (IsPlaced lanes) (cells lanes) made → IsStartCell lanes p c → IsPosition p
 start_position lanes made p c b q =

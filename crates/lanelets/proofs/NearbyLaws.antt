@@ -16,7 +16,7 @@ use Rattle.lanelets.specs.Nearby.{AreKept, HasPieceNumber, IsNearby, IsPieceNumb
 use Rattle.lanelets.specs.Steps.{net_of, HasOrigin}
 use Rattle.lanelets.proofs.PairLists.{net_many}
 use Rattle.lanelets.proofs.Places.{same_at, same_lengths}
-use Rattle.lanelets.proofs.StepLists.{item_low, lanes_low, origin_is}
+use Rattle.lanelets.proofs.StepLists.{item_low, lanes_low, origin_is, no_part}
 use Rattle.spot_terms.proofs.ItemPlaces.{got_below}
 
 -- a cell of a piece is a cell, and the number of the piece is below that of the cells
@@ -65,9 +65,6 @@ number_one lists n e piece k j g h = g.2 ∙ ap (λ (z : List ℕ). (slice_index
 
 same_part : (e piece part parts f q i n : ℕ) → Part e piece part parts ≡ Part f q i n → (e ≡ f) × (piece ≡ q)
 same_part e piece part parts f q i n h = (cc, cc)
-
-no_part : (e f g piece part parts : ℕ) → Bridge e f ≡ Part g piece part parts → ⊥
-no_part e f g piece part parts h = cc
 
 -- the number of the piece of a cell
 pub part_number : (lists : List (List ℕ)) (net : List NetCell) (c e piece part parts k : ℕ) → HasOrigin net c (Part e piece part parts) → IsPieceNumber lists (length net) e piece k → (j : ℕ) → (Some k ≡ Some j) ↔ HasPieceNumber lists net c j

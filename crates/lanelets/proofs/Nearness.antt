@@ -12,7 +12,7 @@ use Rattle.lanelets.specs.Pieces.{IsNear, AreNear, corners_between}
 pub less : (n : ℕ) → n ≤ 10000000000000 → n ≤ 40000000000000
 less n h = omega (arith, h)
 
-position : (p : Pt) → IsNear p → IsPosition p
+pub position : (p : Pt) → IsNear p → IsPosition p
 position p h = record { x = less (nat_abs p.x) h.x; y = less (nat_abs p.y) h.y }
 
 pub positions : (p q : Portal) → AreNear p → AreNear q → AllByRecursion IsPosition (corners_between p q)

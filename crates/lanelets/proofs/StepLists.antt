@@ -130,7 +130,7 @@ IsBeforeFirst lanes net f c = (e : ℕ) × EndsLane net c e × IsFollowed lanes 
 abbrev pub GoesOnto : List Lane → List NetCell → ℕ → ℕ → ℕ → ℕ → ℕ → Type 0
 GoesOnto lanes net d f piece part c = IsPrevious net d f c ⊎ ((piece ≡ 0) × (part ≡ 0) × (IsBeforeFirst lanes net f c ⊎ LeadsTo net c f))
 
-no_part : (e f g piece part parts : ℕ) → Bridge e f ≡ Part g piece part parts → ⊥
+pub no_part : (e f g piece part parts : ℕ) → Bridge e f ≡ Part g piece part parts → ⊥
 no_part e f g piece part parts h = cc
 
 no_lane : (e f g : ℕ) (o : Origin) → o ≡ Bridge e f → lane_of o ≡ Some g → ⊥

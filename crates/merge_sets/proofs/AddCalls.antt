@@ -36,7 +36,7 @@ width_read w h = omega (arith, ints, h.low, h.high)
 slot_small : (q p z : ℤ) → nat_abs q ≤ 400_000_000 → nat_abs p ≤ 400_000_000 → Within q p z → nat_abs z ≤ 400_000_000
 slot_small q p z h k w = omega (arith, ints, h, k, w.low, w.high)
 
-small_read : (z : ℤ) → nat_abs z ≤ 400_000_000 → read z ≡ z
+pub small_read : (z : ℤ) → nat_abs z ≤ 400_000_000 → read z ≡ z
 small_read z h = omega (arith, ints, h)
 
 module _ (o : OuterBox) (grid : Grid) (s : BoxSlots) (x y : List Pt) (box : IsBox o) (widths : IsGrid grid) (are : AreSlotsOf o grid s) (convex_x : IsCornerList x) (convex_y : IsCornerList y)

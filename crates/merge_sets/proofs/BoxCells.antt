@@ -15,7 +15,7 @@ use Rattle.base_sets.specs.declared.grid.OuterBox.{OuterBox}
 use Rattle.base_sets.specs.Values.{IsBox, IsGrid, rect_of_box}
 use Rattle.merge_sets.specs.Tables.{IsCellOf, place_of}
 use Rattle.base_sets.proofs.Slots.{count_is}
-use Rattle.spot_terms.proofs.Orders.{row_before, factor_order}
+use Rattle.spot_terms.proofs.Orders.{row_before, factor_order, below_next}
 
 -- ---- natural numbers
 
@@ -87,13 +87,10 @@ slot_order w a b some h =
     let x = quotient_floor-is a w some in
     let y = quotient_floor-is b w some in
     let below : slot w a <ℤ (slot w b +ℤ pos 1) = below_factor (slot w a) (slot w b +ℤ pos 1) w some (between (slot w a *ℤ w) a b ((slot w b +ℤ pos 1) *ℤ w) x.product_le h y.next_product_gt) in
-    at_most (slot w a) (slot w b) below
+    below_next (slot w a) (slot w b) below
   where
     between : (x a b y : ℤ) → x ≤ℤ a → a ≤ℤ b → b <ℤ y → x <ℤ y
     between x a b y p q r = omega (arith, ints, p, q, r)
-
-    at_most : (a b : ℤ) → a <ℤ (b +ℤ pos 1) → a ≤ℤ b
-    at_most a b h = omega (arith, ints, h)
 
 pub some_width : (w : ℤ) → Within (pos 100_000) (pos 100_000_000) w → pos 0 <ℤ w
 some_width w h = omega (arith, ints, h.low)

@@ -25,7 +25,7 @@ use Rattle.merge_sets.specs.declared.places.BoxSlots.{BoxSlots}
 use Rattle.merge_sets.proofs.BoxCells.{apart_from, column_of, counted_within, counted_slots, last_within, columns_within, place_past, reached, some_width, steps_below}
 use Rattle.base_sets.proofs.Slots.{count_is}
 use Rattle.merge_sets.proofs.SlotsMet.{MeetsWithin, meets_within, none_there, slot_side}
-use Rattle.spot_terms.proofs.Orders.{row_before}
+use Rattle.spot_terms.proofs.Orders.{row_before, at_most_trans}
 
 -- ---- a cell by its numbers
 
@@ -105,11 +105,7 @@ module _ (o : OuterBox) (grid : Grid) (k : ℕ) (x y : List Pt) (box : IsBox o) 
 
   -- the first cell that is met is one of the box
   pub first_cell : IsCellOf o grid left low
-  first_cell = (record { low = met_columns.low; high = trans left right (slot grid.w o.xhi) met_columns.order met_columns.high }, record { low = met_rows.low; high = trans low high (slot grid.g o.yhi) met_rows.order met_rows.high })
-    where
-      trans : (a b c : ℤ) → a ≤ℤ b → b ≤ℤ c → a ≤ℤ c
-      trans a b c p q = omega (arith, ints, p, q)
-
+  first_cell = (record { low = met_columns.low; high = at_most_trans left right (slot grid.w o.xhi) met_columns.order met_columns.high }, record { low = met_rows.low; high = at_most_trans low high (slot grid.g o.yhi) met_rows.order met_rows.high })
   -- what the calls ask
   pub room_is : n * column_of o grid ≤ cells_of grid.w grid.g (rect_of_box o)
   room_is = columns_within a n (slots_met grid.w o.xlo o.xhi) (column_of o grid) columns_fit

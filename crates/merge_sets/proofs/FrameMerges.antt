@@ -13,10 +13,7 @@ scaled_max : (k : ℕ) (a b : ℤ) → (pos k *ℤ int_max a b ≡ pos k *ℤ a)
 scaled_max k a b = elim (greater_is_one a b) [ inl e ↦ inl (ap (λ z. pos k *ℤ z) e) | inr e ↦ inr (ap (λ z. pos k *ℤ z) e) ]
 
 at_least_first : (k : ℕ) (a b : ℤ) → (pos k *ℤ a) ≤ℤ (pos k *ℤ int_max a b)
-at_least_first k a b = scaled k a (int_max a b) (omega (arith, ints, clamps))
-  where
-    scaled : (k : ℕ) (a b : ℤ) → a ≤ℤ b → (pos k *ℤ a) ≤ℤ (pos k *ℤ b)
-    scaled k a b h = scaled_order k a b h
+at_least_first k a b = scaled_order k a (int_max a b) (omega (arith, ints, clamps))
 
 at_least_second : (k : ℕ) (a b : ℤ) → (pos k *ℤ b) ≤ℤ (pos k *ℤ int_max a b)
 at_least_second k a b = scaled_order k b (int_max a b) (omega (arith, ints, clamps))

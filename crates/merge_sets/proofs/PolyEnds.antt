@@ -12,6 +12,7 @@ use Rattle.spot_terms.specs.Reach.{along}
 use Rattle.spot_terms.specs.Whole.{greatest, least}
 use Rattle.convex_poly.specs.Polygons.{IsPolygon, IsPosition}
 use Rattle.spot_terms.proofs.ListLemmas.{all_included}
+use Rattle.spot_terms.proofs.Orders.{at_most_trans}
 
 pub places_order : (vs : List Pt) → least_place vs ≤ℤ greatest_place vs
 places_order [] = omega (arith, ints)
@@ -25,11 +26,8 @@ places_order (v ∷ vs) = between v.x (map (λ d. d.x) vs)
     at_least a z [] h = h
     at_least a z (x ∷ xs) h = at_least a (int_max z x) xs (omega (arith, ints, clamps, h))
 
-    trans : (a b c : ℤ) → a ≤ℤ b → b ≤ℤ c → a ≤ℤ c
-    trans a b c p q = omega (arith, ints, p, q)
-
     between : (z : ℤ) (xs : List ℤ) → least z xs ≤ℤ greatest z xs
-    between z xs = trans (least z xs) z (greatest z xs) (least_at_most z z xs (omega (arith, ints))) (at_least z z xs (omega (arith, ints)))
+    between z xs = at_most_trans (least z xs) z (greatest z xs) (least_at_most z z xs (omega (arith, ints))) (at_least z z xs (omega (arith, ints)))
 
 pub support_size : (vs : List Pt) (r : ℤ) → IsPolygon vs → IsSupport vs (pos 1) (pos 0) r → nat_abs r ≤ 40_000_000_000_000
 support_size vs r p s = let (c, i, e) = s.reached in near c.x c.y r (all_included IsPosition vs c p.positions i).x e

@@ -13,6 +13,7 @@ use Rattle.scenario.proofs.Counts.{count_cons, count_none, count_front}
 use Rattle.scenario.proofs.Rises.{low_before, in_filter}
 use Rattle.scenario.proofs.Members.{item_in}
 use Rattle.spot_terms.proofs.ListLemmas.{includes_either, includes_front}
+use Rattle.spot_terms.proofs.Orders.{below_or_at_least}
 
 -- ---- how many are below a number, and how many are it
 
@@ -54,14 +55,11 @@ same_in t (x ∷ xs) h = same_in_by t x xs (x == t) refl (same_in t xs) h
 -- the one with exactly n below it
 between : (xs : List ℕ) (n t : ℕ) → ((s : ℕ) → Same s xs ≤ 1) → n < Below t xs → (s : ℕ) × (Below s xs ≡ n) × (Same s xs ≡ 1)
 between xs n zero one h = let z = none_below xs in absurd (omega (arith, z, h))
-between xs n (suc t) one h = elim (below_or n (Below t xs)) [
+between xs n (suc t) one h = elim (below_or_at_least n (Below t xs)) [
   | inl l ↦ between xs n t one l
   | inr l ↦ let m = next t xs in let k = one t in let g : n < Below (t + 1) xs = up xs n t h in (t, omega (arith, l, m, k, g), omega (arith, l, m, k, g))
 ]
   where
-    below_or : (a b : ℕ) → (a < b) ⊎ (b ≤ a)
-    below_or a b = grind arith
-
     up : (xs : List ℕ) (n t : ℕ) → n < Below (suc t) xs → n < Below (t + 1) xs
     up xs n t h = let P : ℕ → Type 0 = λ s. n < Below s xs in subst P (plus t) h
       where

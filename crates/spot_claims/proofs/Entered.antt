@@ -29,7 +29,7 @@ use Rattle.spot_claims.proofs.OneReport.{area_pieces, replay_pieces}
 use Rattle.spot_terms.proofs.OneStart.{start_one, speed_one}
 use Rattle.spot_terms.proofs.OneLabel.{polygons_one}
 use Rattle.spot_claims.proofs.ExactStart.{exact_start}
-use Rattle.spot_terms.proofs.Orders.{zero_of_true}
+use Rattle.spot_terms.proofs.Orders.{zero_of_true, factor_order}
 use Rattle.spot_terms.proofs.ItemPlaces.{got_included}
 
 -- ---- lists
@@ -231,13 +231,10 @@ struck_is_entered s c course traffic lines pieces i states area some le ticks tr
     let within : Includes (predicted_pieces s occupants j) piece = subst (λ (z : List Piece). Includes z piece) (same j (omega (arith, at, le))) listed in record {
       tick = j * s.step;
       state = state;
-      early = mul_le j i s.step at;
+      early = factor_order j i s.step at;
       at = subst (λ z. slice_get states (j * z) ≡ Some state) ticks got;
       occupied = at_piece s c traffic lines tr all occupants j (i - 1) (j * s.step) state.p piece known (omega (arith, at)) (holds_tick s.step c.steps j some (omega (arith, at, le))) within inside;
     }
-  where
-    mul_le : (a b k : ℕ) → a ≤ b → a * k ≤ b * k
-    mul_le a b k h = grind arith
 
 pub struck_is_collided : StruckIsCollided
 struck_is_collided s c course pieces i states replay le ticks are (j, p, state, at, got, less, (piece, found, inside)) =

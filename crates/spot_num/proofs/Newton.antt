@@ -2,6 +2,7 @@
 use Rattle.std.proofs.Common.{◌≡◌, ℕ, ◌+◌, ◌-◌, ◌*◌, ◌/◌, ◌^◌, ◌<◌, ◌≤◌, ◌⊎◌, inl, inr, arith, subst, mul-le-mul}
 use Rattle.std.proofs.Math.Pow.{pow_mono}
 use Rattle.std.proofs.lemmas.Nat.{pow-add}
+use Rattle.spot_terms.proofs.Readings.{quotient_high}
 
 -- four times a product is at most the square of the sum
 mean_up : (a d : ℕ) → 4 * (a * (a + d)) ≤ (a + (a + d)) * (a + (a + d))
@@ -25,11 +26,8 @@ below_step n r q m h s =
     small : r + (q + 1) ≤ 2 * m + 2
     small = omega arith
 
-pub quotient_above : (n r : ℕ) → 0 < r → n < (n / r + 1) * r
-quotient_above n r h = omega arith
-
 pub step_above : (n r : ℕ) → 0 < r → n < ((r + n / r) / 2 + 1) * ((r + n / r) / 2 + 1)
-step_above n r h = below_step n r (n / r) ((r + n / r) / 2) (quotient_above n r h) (omega arith)
+step_above n r h = below_step n r (n / r) ((r + n / r) / 2) (quotient_high n r h) (omega arith)
 
 -- a power of two above the root
 pub power_above : (n l : ℕ) → n < 2 * 2 ^ l → n < (2 ^ (l / 2 + 1) + 1) * (2 ^ (l / 2 + 1) + 1)

@@ -9,16 +9,14 @@ use Rattle.spot_terms.specs.Lists.{Includes}
 use Rattle.spot_terms.specs.declared.plain.Pt.{Pt}
 use Rattle.spot_terms.proofs.Hulls.{hull_at_most, hull_flat, hulls_of}
 use Rattle.spot_terms.proofs.ListLemmas.{all_included}
+use Rattle.spot_terms.proofs.Orders.{natural_antisymmetric}
 
 -- there is one gap at most
 pub gap_one : (a b : List Pt) (w v : ℕ) → IsGap a b w → IsGap a b v → w ≡ v
 gap_one a b w v (inl f) (inl g) = f.1 ∙ sym g.1
 gap_one a b w v (inl f) (inr g) = absurd (g.0 f.0)
 gap_one a b w v (inr f) (inl g) = absurd (f.0 g.0)
-gap_one a b w v (inr f) (inr g) = both w v (g.1.greatest w f.1.holds) (f.1.greatest v g.1.holds)
-  where
-    both : (w v : ℕ) → w ≤ v → v ≤ w → w ≡ v
-    both w v h k = omega arith
+gap_one a b w v (inr f) (inr g) = natural_antisymmetric w v (g.1.greatest w f.1.holds) (f.1.greatest v g.1.holds)
 
 -- ---- a member at least as far along a normal as a point of the hull
 

@@ -9,7 +9,7 @@ use Rattle.spot_terms.specs.HullLaws.{HullLaws}
 use Rattle.spot_terms.specs.Lists.{Includes}
 use Rattle.spot_terms.proofs.ListLemmas.{all_included}
 use Rattle.spot_terms.proofs.Hulls.{hull_included, hull_subset, hull_flat, hull_mean, hull_between, hull_at_most, support_bounds, support_bounds_whole, hull_to_points, hull_to_corners, support_of_corners}
-use Rattle.spot_terms.proofs.Orders.{at_most_trans, equal_at_most}
+use Rattle.spot_terms.proofs.Orders.{at_most_trans, equal_at_most, antisymmetric}
 
 -- an item that no other item of the list passes
 record Furthest (vs : List Pt) (nx ny : ℤ) : Type 0 where
@@ -40,11 +40,8 @@ support_of_points points (v ∷ vs) nx ny h u s =
     let high : dot nx ny p ≤ℤ dot nx ny r.point = support_bounds_whole (v ∷ vs) nx ny (dot nx ny r.point) p own (all_included (InHull (v ∷ vs)) points p u.covers i) in
     record {
       bound = λ c j. s.bound c (all_included (Includes points) (v ∷ vs) c u.among j);
-      reached = (r.point, r.here, same _ _ low (subst (λ z. z ≤ℤ dot nx ny r.point) e high));
+      reached = (r.point, r.here, antisymmetric _ _ low (subst (λ z. z ≤ℤ dot nx ny r.point) e high));
     }
-  where
-    same : (z w : ℤ) → z ≤ℤ w → w ≤ℤ z → z ≡ w
-    same z w g k = omega (arith, ints)
 
 pub hull_laws : HullLaws
 hull_laws = record {

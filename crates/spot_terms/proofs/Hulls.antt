@@ -13,7 +13,7 @@ use Rattle.spot_terms.proofs.ListLemmas.{all_included, all_later, all_of, includ
 use Rattle.spot_terms.proofs.Products.{*ℤ_assoc, times_swap}
 use Rattle.spot_terms.proofs.Ring.{ring, var, num, ◌⊕◌, ◌⊖◌, ◌⊗◌}
 use Rattle.spot_terms.proofs.Mixes.{total, Mix, mix_none, mix_add, mix_scale, mix_to, mix_included, positive_times, Affine, mix_not_below, not_below_part}
-use Rattle.spot_terms.proofs.Orders.{product_not_negative}
+use Rattle.spot_terms.proofs.Orders.{product_not_negative, natural_of, difference_not_negative, at_most_of_difference}
 
 -- ---- weights of any length, and one weight for each corner
 
@@ -215,7 +215,7 @@ hull_at_most a b c vs q all h =
     let m = hull_mix_at vs q h in
     let low : pos 0 ≤ℤ ((((pos 0 -ℤ a) *ℤ m.X) +ℤ ((pos 0 -ℤ b) *ℤ m.Y)) +ℤ (c *ℤ pos m.n)) =
     mix_not_below (λ u. c -ℤ dot a b u) (record { at_x = pos 0 -ℤ a; at_y = pos 0 -ℤ b; rest = c; is = λ p. ring (a ∷ b ∷ c ∷ p.x ∷ p.y ∷ []) (var 2 ⊖ ((var 0 ⊗ var 3) ⊕ (var 1 ⊗ var 4))) ((((num (pos 0) ⊖ var 0) ⊗ var 3) ⊕ ((num (pos 0) ⊖ var 1) ⊗ var 4)) ⊕ var 2) refl }) vs m.n m.X m.Y (lowered vs all) m.mix in
-    above _ _ (not_below_part m.n ((c *ℤ pos q.d) -ℤ (a *ℤ q.x +ℤ b *ℤ q.y)) m.some
+    at_most_of_difference _ _ (not_below_part m.n ((c *ℤ pos q.d) -ℤ (a *ℤ q.x +ℤ b *ℤ q.y)) m.some
     (subst (λ z. pos 0 ≤ℤ z) (moved (pos m.n) (pos q.d) m.X m.Y q.x q.y m.x m.y) (product_not_negative (pos q.d) _ (omega (arith, ints)) low)))
   where
     lowered : (us : List Pt) → AllByRecursion (λ u. dot a b u ≤ℤ c) us → AllByRecursion (λ u. pos 0 ≤ℤ (c -ℤ dot a b u)) us
@@ -224,9 +224,6 @@ hull_at_most a b c vs q all h =
       where
         step : (z : ℤ) → z ≤ℤ c → pos 0 ≤ℤ (c -ℤ z)
         step z g = omega (arith, ints)
-
-    above : (z w : ℤ) → pos 0 ≤ℤ (w -ℤ z) → z ≤ℤ w
-    above z w g = omega (arith, ints)
 
     moved : (n d X Y x y : ℤ) → n *ℤ x ≡ d *ℤ X → n *ℤ y ≡ d *ℤ Y → d *ℤ ((((pos 0 -ℤ a) *ℤ X) +ℤ ((pos 0 -ℤ b) *ℤ Y)) +ℤ (c *ℤ n)) ≡ n *ℤ ((c *ℤ d) -ℤ ((a *ℤ x) +ℤ (b *ℤ y)))
     moved n d X Y x y e f =
@@ -312,15 +309,8 @@ support_of_corners points corners nx ny h u s = record {
 
 -- where two points of equal x lie in a hull, so do all whole points between
 pub hull_between : (vs : List Pt) (x low y high : ℤ) → low ≤ℤ y → y ≤ℤ high → InHull vs (record { x = x; y = low }) → InHull vs (record { x = x; y = high }) → InHull vs (record { x = x; y = y })
-hull_between vs x low y high l h a b = go (part (high -ℤ y) (gap y high h)) (part (y -ℤ low) (gap low y l))
+hull_between vs x low y high l h a b = go (natural_of (high -ℤ y) (difference_not_negative y high h)) (natural_of (y -ℤ low) (difference_not_negative low y l))
   where
-    gap : (z w : ℤ) → z ≤ℤ w → pos 0 ≤ℤ (w -ℤ z)
-    gap z w h = omega (arith, ints)
-
-    part : (z : ℤ) → pos 0 ≤ℤ z → (n : ℕ) × (z ≡ pos n)
-    part (pos n) h = (n, refl)
-    part (negsuc n) h = absurd (omega (arith, ints))
-
     sum_x : (m n : ℕ) → pos (m + n) *ℤ x ≡ pos m *ℤ x +ℤ pos n *ℤ x
     sum_x m n = ring (pos m ∷ pos n ∷ x ∷ []) ((var 0 ⊕ var 1) ⊗ var 2) ((var 0 ⊗ var 2) ⊕ (var 1 ⊗ var 2)) refl
 

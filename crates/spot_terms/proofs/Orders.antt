@@ -269,3 +269,9 @@ times_not_negative k (negsuc n) h = absurd (omega (arith, ints, h))
 pub half_at_least : (x y : ℤ) → (pos 2 *ℤ x) ≤ℤ y → x ≤ℤ quotient_floor y (pos 2)
 half_at_least x (pos n) h = omega (arith, ints)
 half_at_least x (negsuc n) h = omega (arith, ints)
+
+pub natural_trans : (a b c : ℕ) → a ≤ b → b ≤ c → a ≤ c
+natural_trans a b c h k = omega (arith, h, k)
+
+pub negative_times : (n : ℕ) (z : ℤ) → negsuc n *ℤ z ≡ neg_ℤ (pos (suc n) *ℤ z)
+negative_times n z = omega (arith, ints)

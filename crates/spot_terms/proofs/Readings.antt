@@ -40,7 +40,7 @@ rounded t d = (2 * t + d) / (2 * d)
 quotient_low : (x n : ℕ) → x / n * n ≤ x
 quotient_low x n = div-mul-le_self x n
 
-quotient_high : (x n : ℕ) → 0 < n → x < (x / n + 1) * n
+pub quotient_high : (x n : ℕ) → 0 < n → x < (x / n + 1) * n
 quotient_high x n h = elim (cases_lt x ((x / n + 1) * n)) [ inl l ↦ l | inr g ↦ absurd (omega (arith, (le-div_iff_mul-le {k = n} {x = x / n + 1} {y = x} h).1 g)) ]
 
 rounded_near : (t d : ℕ) → 0 < d → (2 * (rounded t d * d) ≤ 2 * t + d) × (2 * t < 2 * (rounded t d * d) + d)

@@ -9,7 +9,7 @@ use Rattle.spot_terms.specs.Hull.{InHull}
 use Rattle.spot_terms.proofs.Ring.{ring, var, ◌⊕◌, ◌⊖◌, ◌⊗◌}
 use Rattle.spot_terms.proofs.Mixes.{Mix, mix_add, mix_scale, mix_to, mix_included, not_below_part}
 use Rattle.spot_terms.proofs.Hulls.{mix_hull}
-use Rattle.spot_terms.proofs.Orders.{at_most_trans, product_not_negative, sum_not_negative}
+use Rattle.spot_terms.proofs.Orders.{at_most_trans, product_not_negative, sum_not_negative, natural_of}
 
 -- some weighted points of vs, of sum above 0, at the x of q, and at least as high
 pub record Above (vs : List Pt) (q : Pt) : Type 0 where
@@ -28,11 +28,7 @@ pub record Below (vs : List Pt) (q : Pt) : Type 0 where
 
 -- z is a natural number above w
 gap_of : (z w : ℤ) → w ≤ℤ z → (n : ℕ) × (z -ℤ w ≡ pos n)
-gap_of z w h = nat_of (z -ℤ w) (omega (arith, ints))
-  where
-    nat_of : (z : ℤ) → pos 0 ≤ℤ z → (n : ℕ) × (z ≡ pos n)
-    nat_of (pos n) h = (n, refl)
-    nat_of (negsuc n) h = absurd (omega (arith, ints))
+gap_of z w h = natural_of (z -ℤ w) (omega (arith, ints))
 
 mean_x : (s t a b x : ℤ) → (s *ℤ (a *ℤ x)) +ℤ (t *ℤ (b *ℤ x)) ≡ ((s *ℤ a) +ℤ (t *ℤ b)) *ℤ x
 mean_x s t a b x =
@@ -46,7 +42,7 @@ mean_y a b y h l =
     ((((var 1 ⊗ var 2) ⊖ var 4) ⊗ var 3) ⊕ ((var 3 ⊖ (var 0 ⊗ var 2)) ⊗ var 4))
     (((((var 1 ⊗ var 2) ⊖ var 4) ⊗ var 0) ⊕ ((var 3 ⊖ (var 0 ⊗ var 2)) ⊗ var 1)) ⊗ var 2) refl
 
-above_times : (s a t b : ℕ) → 0 < a → 0 < b → 0 < s + t → 0 < s * a + t * b
+pub above_times : (s a t b : ℕ) → 0 < a → 0 < b → 0 < s + t → 0 < s * a + t * b
 above_times zero a zero b h k g = absurd (omega arith)
 above_times zero (suc a) (suc t) (suc b) h k g = omega arith
 above_times (suc s) (suc a) t b h k g = omega arith
@@ -94,7 +90,7 @@ drawn b y z h =
 mean_of : (a x b : ℤ) → ((b -ℤ x) *ℤ a) +ℤ ((x -ℤ a) *ℤ b) ≡ ((b -ℤ x) +ℤ (x -ℤ a)) *ℤ x
 mean_of a x b = ring (a ∷ x ∷ b ∷ []) (((var 2 ⊖ var 1) ⊗ var 0) ⊕ ((var 1 ⊖ var 0) ⊗ var 2)) (((var 2 ⊖ var 1) ⊕ (var 1 ⊖ var 0)) ⊗ var 1) refl
 
-sum_of : (s t : ℕ) → pos (s * 1 + t * 1) ≡ pos s +ℤ pos t
+pub sum_of : (s t : ℕ) → pos (s * 1 + t * 1) ≡ pos s +ℤ pos t
 sum_of s t = omega (arith, ints)
 
 mean_above : (s t : ℕ) (a x b : ℤ) → b -ℤ x ≡ pos s → x -ℤ a ≡ pos t → (pos s *ℤ a) +ℤ (pos t *ℤ b) ≡ pos (s * 1 + t * 1) *ℤ x

@@ -9,14 +9,12 @@ use Rattle.base_sets.specs.Values.{value_of}
 use Rattle.carve.specs.Cuts.{with_x}
 use Rattle.carve.specs.Rooms.{SetRoom}
 use Rattle.carve.proofs.CutSteps.{none_cut, cut_some, cut_none}
+use Rattle.carve.proofs.RowPlaces.{fits_place}
 use Rattle.carve.proofs.sets.cut.Goals as goal
 use Rattle.carve.proofs.sets.cut.Goals.{in-Some, in_default}
 
 pub loop-run-init : goal.loop-run-init
 loop-run-init c = record { cut = none_cut (value_of c.args.b.now) c.args.out.now.sets; few = omega arith; room = refl }
-
-fits : (x : ℤ) → nat_abs x ≤ 40_000_000_000_000 → FitsSigned w64 x
-fits x h = omega (arith, ints)
 
 longer : (more new : List SetValue) (c : SetValue) (old i : ℕ) → more ≡ new ++ c ∷ [] → length new ≤ old + i → length more ≤ old + (i + 1)
 longer more new c old i e h = rw (e, length-append) (omega arith)
@@ -31,8 +29,8 @@ loop-run-preserved c =
     let more = take_more c.args.runs.now c.loop-run.run-index (pos 0, pos 0) c.loop-run-test.true in
     let sizes : (nat_abs run.0 ≤ 40_000_000_000_000) × (nat_abs run.1 ≤ 40_000_000_000_000) =
     all_at (λ (r : ℤ × ℤ). (nat_abs r.0 ≤ 40_000_000_000_000) × (nat_abs r.1 ≤ 40_000_000_000_000)) c.args.runs.now c.loop-run.run-index (pos 0, pos 0) c.requires.places c.loop-run-test.true in
-    let fits_0 : FitsSigned w64 run.0 = fits run.0 sizes.0 in
-    let fits_1 : FitsSigned w64 run.1 = fits run.1 sizes.1 in
+    let fits_0 : FitsSigned w64 run.0 = fits_place run.0 sizes.0 in
+    let fits_1 : FitsSigned w64 run.1 = fits_place run.1 sizes.1 in
     elim c.match-part_between.branch [
       | in-Some w ↦
           let part : IsPart (places run.0 run.1) b.x (Some w.in-Some.x) = simp to_z-of_z at w.in-Some.ensures.part in

@@ -4,16 +4,14 @@ use Rattle.std.proofs.lemmas.Int.{ints}
 use Rattle.convex_poly.proofs.Wide.{back}
 use Rattle.spot_terms.specs.Whole.{Within}
 use Rattle.merge_sets.proofs.PartSlots.{read}
+use Rattle.merge_sets.proofs.AddCalls.{small_read}
 use Rattle.merge_sets.proofs.places.BoxSlots.has.Goals as goal
 
-small : (z : ℤ) → nat_abs z ≤ 400_000_000 → read z ≡ z
-small z h = omega (arith, ints, h)
-
 plain : (lo hi z : ℤ) → nat_abs lo ≤ 400_000_000 → nat_abs hi ≤ 400_000_000 → read z ≡ z → Within (read lo) (read hi) (read z) → Within lo hi z
-plain lo hi z h k e w = subst (λ (y : ℤ). Within y hi z) (small lo h) (subst (λ (y : ℤ). Within (read lo) y z) (small hi k) (subst (Within (read lo) (read hi)) e w))
+plain lo hi z h k e w = subst (λ (y : ℤ). Within y hi z) (small_read lo h) (subst (λ (y : ℤ). Within (read lo) y z) (small_read hi k) (subst (Within (read lo) (read hi)) e w))
 
 as_read : (lo hi z : ℤ) → nat_abs lo ≤ 400_000_000 → nat_abs hi ≤ 400_000_000 → read z ≡ z → Within lo hi z → Within (read lo) (read hi) (read z)
-as_read lo hi z h k e w = subst (λ (y : ℤ). Within y (read hi) (read z)) (sym (small lo h)) (subst (λ (y : ℤ). Within lo y (read z)) (sym (small hi k)) (subst (Within lo hi) (sym e) w))
+as_read lo hi z h k e w = subst (λ (y : ℤ). Within y (read hi) (read z)) (sym (small_read lo h)) (subst (λ (y : ℤ). Within lo y (read z)) (sym (small_read hi k)) (subst (Within lo hi) (sym e) w))
 
 pub returns-then-is_between : goal.returns-then-is_between
 returns-then-is_between c = (

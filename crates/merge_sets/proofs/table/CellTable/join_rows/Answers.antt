@@ -11,6 +11,7 @@ use Rattle.merge_sets.specs.declared.places.BoxSlots.{BoxSlots}
 use Rattle.merge_sets.proofs.Joins.{both_eight}
 use Rattle.merge_sets.proofs.KnownRows.{known_fit, known_joins, known_none, known_table, same_joins}
 use Rattle.merge_sets.proofs.Steps.{StepOf, table_of}
+use Rattle.spot_terms.proofs.Orders.{natural_trans}
 use Rattle.merge_sets.proofs.table.CellTable.join_rows.Goals as goal
 
 -- a cell by the numbers that the call reads
@@ -31,10 +32,7 @@ join_column-requires-clause-room c =
     (at_cell c.self.inside.slots c.args.col c.args.low _ _ col low c.in-Some.ensures.some.0) in
     let at = at_place c.self.inside.slots c.args.col c.args.low _ _ c.in-Some.at col low c.in-Some.ensures.some.1 in
     subst (λ (z : List Cell). c.in-Some.at + length c.args.rows.now ≤ length z) (sym c.deref_mut.ensures.value)
-    (subst (λ (p : ℕ). p + length c.args.rows.now ≤ length c.self.inside.cells.items) (sym at) (let f = c.self.invariant.few in within (place_in c.self.inside.slots c.args.col c.args.low + length c.args.rows.now) c.self.inside.used (length c.self.inside.cells.items) fits f))
-  where
-    within : (a b c : ℕ) → a ≤ b → b ≤ c → a ≤ c
-    within a b c h k = omega (arith, h, k)
+    (subst (λ (p : ℕ). p + length c.args.rows.now ≤ length c.self.inside.cells.items) (sym at) (let f = c.self.invariant.few in natural_trans (place_in c.self.inside.slots c.args.col c.args.low + length c.args.rows.now) c.self.inside.used (length c.self.inside.cells.items) fits f))
 
 pub join_column-requires-clause-cells : goal.join_column-requires-clause-cells
 join_column-requires-clause-cells c = λ i d got.
