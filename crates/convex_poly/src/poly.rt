@@ -104,7 +104,7 @@ ghost use Rattle.spot_terms.specs.LanePolygons.{sums};
 ghost use Rattle.convex_poly.specs.Polygons.{IsPosition, IsSummand};
 
 /// Whether the coordinates of a point are at most 4·10^13 in size, as those of all points of polygons are.
-fn is_position(p: Pt) -> bool
+pub(crate) fn is_position(p: Pt) -> bool
     ensures { IsTrue result ↔ IsPosition p }
 {
     p.x.unsigned_abs() <= 40_000_000_000_000 && p.y.unsigned_abs() <= 40_000_000_000_000

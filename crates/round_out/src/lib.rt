@@ -21,10 +21,6 @@ mod clip_tests;
 #[cfg(test)]
 mod frame_tests;
 #[cfg(test)]
-mod hull_rows;
-#[cfg(test)]
-mod polygon_rows;
-#[cfg(test)]
 mod position_clip_rows;
 #[cfg(test)]
 mod speed_clip_rows;
