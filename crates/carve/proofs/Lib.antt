@@ -1,6 +1,7 @@
 pub mod Sweeps
 pub mod Founds
 pub mod PieceLaws
+pub mod PieceRuns
 pub mod Gathers
 pub mod CutSteps
 mod Shared

@@ -1,5 +1,10 @@
+pub mod FoundPieces
+pub mod Heights
+pub mod Marks
 pub mod Octagons
 pub mod OneNumber
 pub mod Outsets
+pub mod PieceLists
+pub mod PutPlaces
 pub mod Starts
 pub mod Types

@@ -12,7 +12,7 @@ use Rattle.participants.specs.Predictions.{PairsAreOne}
 
 module _ (lanes : List Lane) (k steps : ℕ) where
   -- two lists of the cells that an obstacle reaches are equal
-  reached_one : (m : Mover) (s t : AccStart) (speed other : ℕ) (xs ys : List ℕ) → IsStartOf m s speed → IsStartOf m t other
+  pub reached_one : (m : Mover) (s t : AccStart) (speed other : ℕ) (xs ys : List ℕ) → IsStartOf m s speed → IsStartOf m t other
       → Lists (IsReached lanes s speed k steps) xs → Lists (IsReached lanes t other k steps) ys → xs ≡ ys
   reached_one m s t speed other xs ys h i l j =
       let e : s ≡ t = start_one m s t speed other h i in

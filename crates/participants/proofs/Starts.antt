@@ -1,15 +1,16 @@
 -- Which obstacles start at time 0.
 use Rattle.std.proofs.Common.{◌≡◌, ◌≢◌, ◌∙◌, ℕ, ◌+◌, ◌<◌, ◌==◌, length, take, get_or, sym, ap, subst, true, false, List, [], ◌∷◌, ◌++◌, refl, arith, append-nil}
-use Rattle.std.proofs.lemmas.Bool.Decides.{nat_tests}
 use Rattle.std.proofs.lemmas.List.Elements.{filter-append}
 use Rattle.std.proofs.lemmas.List.{take_more}
 use Rattle.spot_terms.specs.Cells.{Lane}
 use Rattle.spot_terms.specs.Participants.{starting, ReachesCells}
 use Rattle.spot_terms.specs.declared.scenario.Mover.{Mover}
-use Rattle.spot_terms.proofs.ListLemmas.{pairwise_push}
+use Rattle.spot_terms.proofs.ListLemmas.{all_append, pairwise_push}
 use Rattle.participants.specs.declared.participant.Participant.{Participant}
 use Rattle.participants.specs.Outsets.{AreGathered, IsHolding}
+use Rattle.participants.specs.Predictions.{IsSmallIn}
 use Rattle.participants.proofs.OneNumber.{pairs_push}
+use Rattle.participants.proofs.PieceLists.{polygons_count}
 use Rattle.spot_terms.proofs.Orders.{zero_true, not_zero_false}
 
 -- one more obstacle that starts at time 0
@@ -44,6 +45,8 @@ gathered_more lanes k steps items movers i m pairs count ps p same below item ze
     let made : AreGathered lanes k steps (starting (take i movers) ++ m ∷ []) (pairs + count) (ps ++ p ∷ []) = record {
       sum = pairs_push lanes k steps (starting (take i movers)) m pairs count gathered.sum reaches;
       few = λ h. pairwise_push (IsHolding lanes k steps) (starting (take i movers)) ps m p (gathered.few (omega arith)) holding;
+      small = λ h. all_append (IsSmallIn steps) ps (p ∷ []) (gathered.small (omega arith))
+          (record { octagons = holding.octagons; few = (let n = polygons_count lanes k steps m p count holding.participant reaches in omega (arith, n, h)) }, tt);
     } in
     subst (λ (ms : List Mover). AreGathered lanes k steps ms (pairs + count) (ps ++ p ∷ [])) (sym (starting_longer items movers i m same below item zero)) made
 
@@ -55,5 +58,6 @@ gathered_full lanes k steps items movers i m pairs count ps same below item zero
     let made : AreGathered lanes k steps (starting (take i movers) ++ m ∷ []) (pairs + count) ps = record {
       sum = pairs_push lanes k steps (starting (take i movers)) m pairs count gathered.sum reaches;
       few = λ h. absurd (omega arith);
+      small = λ h. absurd (omega arith);
     } in
     subst (λ (ms : List Mover). AreGathered lanes k steps ms (pairs + count) ps) (sym (starting_longer items movers i m same below item zero)) made

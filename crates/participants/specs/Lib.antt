@@ -1,3 +1,5 @@
--- What a prediction has of a scenario.
+-- What a prediction has of a scenario, and the pieces that it occupies.
 pub mod Outsets
+pub mod Pieces
+pub mod Places
 pub mod Predictions

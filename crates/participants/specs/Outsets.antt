@@ -1,5 +1,6 @@
 -- What is known of participants before their occupancies are made, and what is gathered of them.
 use Rattle.std.specs.Prelude.{◌≡◌, ℕ, ◌≤◌, List, [], map, Option, Some, None}
+use Rattle.std.specs.List.{AllByRecursion}
 use Rattle.spot_terms.specs.Cells.{Lane}
 use Rattle.spot_terms.specs.LanePolygons.{AreLanePolygons}
 use Rattle.spot_terms.specs.Lists.{Pairwise}
@@ -12,7 +13,7 @@ use Rattle.spot_terms.specs.declared.scenario.Mover.{Mover}
 use Rattle.lane_occupancy.specs.Laws.{HoldsLaneBodies}
 use Rattle.lane_occupancy.specs.Polygons.{polygon_of, AreLabelsOf}
 use Rattle.lane_occupancy.specs.declared.polygons.LanePoly.{LanePoly}
-use Rattle.participants.specs.Predictions.{IsParticipant, HoldsMotions}
+use Rattle.participants.specs.Predictions.{IsParticipant, HoldsMotions, HasSmallOctagons, IsSmallIn}
 use Rattle.participants.specs.declared.outset.Outset.{Outset}
 use Rattle.participants.specs.declared.participant.Participant.{Participant}
 
@@ -46,8 +47,10 @@ module _ (lanes : List Lane) (k steps : ℕ) where
   pub record IsHolding (m : Mover) (p : Participant) : Type 0 where
     pub participant : IsParticipant lanes k steps m p
     pub holds : HoldsMotions lanes k steps p
+    pub octagons : HasSmallOctagons steps p.octs
 
   -- the number of the pairs of all these obstacles, and the participants that they are, where there aren't too many pairs
   pub record AreGathered (movers : List Mover) (pairs : ℕ) (participants : List Participant) : Type 0 where
     pub sum : PairsSumTo lanes k steps movers pairs
     pub few : pairs ≤ MOST_LANE_POLYGONS → Pairwise IsHolding movers participants
+    pub small : pairs ≤ MOST_LANE_POLYGONS → AllByRecursion (IsSmallIn steps) participants

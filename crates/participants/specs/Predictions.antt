@@ -1,5 +1,6 @@
 -- What a prediction has of a scenario.
-use Rattle.std.specs.Prelude.{◌≡◌, ◌↔◌, ℕ, ◌<◌, List, [], map, true, false, IsTrue, pos}
+use Rattle.std.specs.Prelude.{◌≡◌, ◌↔◌, ℕ, ◌<◌, ◌≤◌, List, [], length, map, true, false, IsTrue, pos}
+use Rattle.std.specs.List.{AllByRecursion}
 use Rattle.spot_terms.specs.Cells.{Lane}
 use Rattle.spot_terms.specs.LanePolygons.{AreLanePolygons}
 use Rattle.spot_terms.specs.Lists.{Pairwise, numbers_below}
@@ -7,8 +8,8 @@ use Rattle.spot_terms.specs.Participants.{starting, IsStartOf, FollowsLanes, Has
 use Rattle.spot_terms.specs.Ranges.{IsStart}
 use Rattle.spot_terms.specs.Reach.{interval_numbers, disc_numbers}
 use Rattle.spot_terms.specs.Types.{TypeRow, HasType}
+use Rattle.spot_terms.specs.Whole.{SizeAtMost}
 use Rattle.spot_terms.specs.declared.limits.TheConstants.{MOST_LANE_POLYGONS}
-use Rattle.spot_terms.specs.declared.plain.Pt.{Pt}
 use Rattle.spot_terms.specs.declared.plain.AccStart.{AccStart}
 use Rattle.spot_terms.specs.declared.scenario.Kind.{Kind}
 use Rattle.spot_terms.specs.declared.scenario.Mover.{Mover}
@@ -47,16 +48,18 @@ pub record IsParticipant (lanes : List Lane) (k steps : ℕ) (m : Mover) (p : Pa
 abbrev pub IsFixedOctagon : Fixed → ℕ × OctNumbers → Type 0
 IsFixedOctagon f o = (o.0 ≡ f.id) × (o.1.n ≡ disc_numbers (record { x = f.x; y = f.y }) f.enclosing)
 
--- what a prediction shows
+-- what a prediction shows: its participants, the static obstacles, and how many intervals it looks at
 pub record Occupancies : Type 0 where
   pub participants : List Participant
   pub fixed : List (ℕ × OctNumbers)
+  pub steps : ℕ
 
 -- each dynamic obstacle whose initial time is 0 is a participant, and each static obstacle has its octagon, both in
 -- document order
 pub record IsPrediction (s : Scenario) (steps : ℕ) (p : Occupancies) : Type 0 where
   pub participants : Pairwise (IsParticipant s.lanelets.entries s.step steps) (starting s.movers) p.participants
   pub fixed : Pairwise IsFixedOctagon s.fixed p.fixed
+  pub horizon : p.steps ≡ steps
 
 -- each whole point of the body of each lane motion of the participant lies, at each tick of an interval, in one of its
 -- polygons that is reached by then
@@ -71,3 +74,19 @@ IsPredictFault s steps Memory = Unit {0}
 -- a scenario has one such number at most
 abbrev pub PairsAreOne : Type 0
 PairsAreOne = (lanes : List Lane) (k steps : ℕ) (movers : List Mover) (n m : ℕ) → PairsSumTo lanes k steps movers n → PairsSumTo lanes k steps movers m → n ≡ m
+
+-- ---- sizes
+
+-- the numbers of an octagon are those of one
+abbrev pub IsSmall : OctNumbers → Type 0
+IsSmall o = AllByRecursion (SizeAtMost 100_000_000_000_000) o.n
+
+-- an octagon for each interval, whose numbers are small
+pub record HasSmallOctagons (steps : ℕ) (octs : List OctNumbers) : Type 0 where
+  pub long : length octs ≡ steps
+  pub small : AllByRecursion IsSmall octs
+
+-- and no more lane polygons than all participants may have together
+pub record IsSmallIn (steps : ℕ) (p : Participant) : Type 0 where
+  pub octagons : HasSmallOctagons steps p.octs
+  pub few : length p.polys ≤ MOST_LANE_POLYGONS

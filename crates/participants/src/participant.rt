@@ -1,13 +1,15 @@
 //! A participant: where it starts, and its octagons.
 
-ghost use Rattle.std.specs.Prelude.{◌≡◌, ◌≤◌, IfOk};
+ghost use Rattle.std.specs.Prelude.{◌≡◌, ◌<◌, Some, length, slice_index_or, true, IfOk};
 ghost use Rattle.spot_terms.specs.Ranges.{IsStart};
 ghost use Rattle.participants.specs.Outsets.{HasLabels, HasPolygons, IsOutset, IsHolding};
-ghost use Rattle.participants.specs.Predictions.{AreOctagons};
+ghost use Rattle.participants.specs.Pieces.{no_octagon, IsFound};
+ghost use Rattle.participants.specs.Places.{piece_at};
+ghost use Rattle.participants.specs.Predictions.{AreOctagons, HasSmallOctagons};
 
 use crate::outset::{Outset, Start};
 use acc_occupancy::AccRun;
-use convex_poly::OctNumbers;
+use convex_poly::{OctNumbers, Poly};
 use lane_occupancy::{LanePolys, lane_polys};
 use lanelets::Network;
 use spot_terms::{AccStart, Horizon, Items, Mover};
@@ -31,10 +33,29 @@ pub struct Participant {
     pub octs: OctList,
 }
 
+impl Participant {
+    /// What makes a piece of the participant: its octagon in an interval, and where it follows lanes the lane polygon of
+    /// this number, with which the octagon is cut.
+    pub(crate) fn parts(&self, interval: u32, which: u32) -> (&OctNumbers, Option<&Poly>)
+        requires interval { interval < length self.now.octs }
+        requires which { self.now.lane ≡ true → which < length self.now.polys }
+        ensures octagon { result.0.now ≡ slice_index_or self.now.octs interval no_octagon }
+        ensures piece { IsFound (Some (piece_at interval which self.now)) result.0.now result.1 }
+    {
+        let octagon = &self.octs.list()[interval as usize];
+        if self.lane {
+            (octagon, Some(&self.polys.list()[which as usize].poly))
+        } else {
+            (octagon, None)
+        }
+    }
+}
+
 // The octagons of the intervals.
 fn octagons(alloc: Global, s: &AccStart, h: Horizon) -> Result<OctList, AllocError>
     requires start { IsStart s.now }
-    ensures { IfOk result (λ octagons. AreOctagons s.now h.k h.steps octagons) }
+    ensures exact { IfOk result (λ octagons. AreOctagons s.now h.k h.steps octagons) }
+    ensures small { IfOk result (λ octagons. HasSmallOctagons h.steps octagons) }
 {
     let mut items = Vec::with_capacity(alloc, h.steps as usize)?;
     let mut run = AccRun::open(s, h.k);

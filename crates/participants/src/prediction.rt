@@ -1,17 +1,23 @@
 //! The prediction of a scenario.
 
-ghost use Rattle.std.specs.Prelude.{◌≡◌, ◌≤◌, ℕ, IfOk, IfErr};
+ghost use Rattle.std.specs.Prelude.{◌≡◌, ◌-◌, ◌<◌, ◌≤◌, ℕ, length, slice_get, IfOk, IfErr};
 ghost use Rattle.std.specs.List.{AllByRecursion};
 ghost use Rattle.spot_terms.specs.Participants.{starting, HasPairs};
 ghost use Rattle.spot_terms.specs.Ranges.{IsInRange, IsFixedInRange};
 ghost use Rattle.spot_terms.specs.Reach.{disc_numbers};
 ghost use Rattle.spot_terms.specs.Lists.{Pairwise};
+ghost use Rattle.spot_terms.specs.Pieces.{Hits, range_of};
+ghost use Rattle.carve.proofs.PieceLaws.{hits_upright, hits_in_range};
 ghost use Rattle.participants.specs.Outsets.{AreGathered};
-ghost use Rattle.participants.specs.Predictions.{HoldsMotions, IsFixedOctagon, IsPredictFault, IsPrediction, PairsAreOne};
+ghost use Rattle.participants.specs.Pieces.{pieces_at, HasPieces, IsFound};
+ghost use Rattle.participants.specs.Predictions.{HoldsMotions, IsSmall, IsSmallIn, IsFixedOctagon, IsPredictFault, IsPrediction, PairsAreOne};
 
 use crate::outset::outset_of;
 use crate::participant::{Participant, participant_of};
-use convex_poly::OctNumbers;
+use crate::pieces::{cut_run, cut_span, octagon_span};
+use crate::places::{Places, places_of};
+use carve::Occupied;
+use convex_poly::{OctNumbers, Poly};
 use lanelets::Network;
 use round_out::octagon_at;
 use spot_terms::{Fixed, Horizon, MOST_LANE_POLYGONS, MOST_STEPS, Pt, Scenario};
@@ -40,19 +46,29 @@ impl From<AllocError> for PredictFault {
     }
 }
 
-/// The participants of a scenario and the octagons of its static obstacles, in document order.
+/// The participants of a scenario and the octagons of its static obstacles, in document order, and what they occupy at
+/// each step.
+///
+/// The pieces of a step are the octagons of the static obstacles, then those of each participant in the interval before
+/// the step, or in the first one at step 0: its octagon where it is free, and else its octagon cut with each lane polygon
+/// that is reached by then.
 #[derive(Drop)]
 pub struct Prediction {
     participants: Vec<Participant>,
     fixed: Vec<(u32, OctNumbers)>,
+    steps: u32,
+    places: Places,
 }
 
 impl Model for Prediction {
+    ghost use Rattle.participants.specs.Places.{IsKept};
     ghost use Rattle.participants.specs.Predictions.{Occupancies};
 
     ghost Value = { Occupancies };
 
-    ghost view = { λ p. record { participants = p.participants.items; fixed = p.fixed.items } };
+    ghost view = { λ p. record { participants = p.participants.items; fixed = p.fixed.items; steps = p.steps } };
+
+    ghost invariant = { λ p. IsKept (record { participants = p.participants.items; fixed = p.fixed.items; steps = p.steps }) p.places };
 }
 
 impl Prediction {
@@ -69,12 +85,72 @@ impl Prediction {
     {
         &self.fixed
     }
+
+    // What makes a piece of a step: an octagon, and the polygon that it is cut with, where there is one.
+    fn parts(&self, step: u32, piece: u32) -> (&OctNumbers, Option<&Poly>)
+        requires step { step ≤ self.now.steps }
+        requires piece { piece < length (pieces_at self.now step) }
+        ensures small { IsSmall result.0.now }
+        ensures piece { IsFound (slice_get (pieces_at self.now step) piece) result.0.now result.1 }
+    {
+        let fixed = self.fixed.len() as u32;
+        if piece < fixed {
+            return (&self.fixed[piece as usize].1, None);
+        }
+        let interval = interval_of(step);
+        let place = self.places.get(interval, piece - fixed);
+        self.participants[place.who as usize].parts(interval, place.which)
+    }
+}
+
+impl Occupied for Prediction {
+    ghost count = { λ o step. length (pieces_at o step) };
+
+    ghost hits = { λ o step piece q. Hits (pieces_at o step) piece q };
+
+    ghost range = { λ o step piece. range_of (pieces_at o step) piece };
+
+    ghost last = { λ o. o.steps };
+
+    ghost far = { λ _. 40_000_000_000_000 };
+
+    fn pieces(&self, step: u32) -> u32 {
+        self.fixed.len() as u32 + self.places.count(interval_of(step))
+    }
+
+    fn span(&self, step: u32, piece: u32) -> Option<(i64, i64)> {
+        let (octagon, polygon) = self.parts(step, piece);
+        match polygon {
+            Some(polygon) => cut_span(octagon, polygon),
+            None => octagon_span(octagon),
+        }
+    }
+
+    fn run(&self, step: u32, piece: u32, y0: i64, y1: i64) -> Option<(i64, i64)> {
+        let (octagon, polygon) = self.parts(step, piece);
+        match polygon {
+            Some(polygon) => cut_run(octagon, polygon, y0, y1),
+            None => octagon.run(y0, y1),
+        }
+    }
+
+    ghost upright = { λ o step piece x y0 y y1 low high a b. hits_upright (pieces_at o step) piece x y0 y y1 low high a b };
+
+    ghost in_range = { λ o step piece q h. hits_in_range (pieces_at o step) piece q h };
+}
+
+// The interval before a step, or the first one at step 0.
+fn interval_of(step: u32) -> u32
+    ensures { result ≡ step - 1 }
+{
+    step.saturating_sub(1)
 }
 
 // The octagon of a static obstacle's disc.
 fn octagon_of(f: &Fixed) -> OctNumbers
     requires { IsFixedInRange f.now }
-    ensures { result.n ≡ disc_numbers (record { x = f.now.x; y = f.now.y }) f.now.enclosing }
+    ensures value { result.n ≡ disc_numbers (record { x = f.now.x; y = f.now.y }) f.now.enclosing }
+    ensures small { IsSmall result }
 {
     octagon_at(Pt { x: f.x, y: f.y }, f.enclosing)
 }
@@ -114,7 +190,8 @@ fn gather(alloc: Global, s: &Scenario, net: &Network, steps: u32) -> Result<Gath
 
 fn fixed_of(alloc: Global, s: &Scenario) -> Result<Vec<(u32, OctNumbers)>, AllocError>
     requires { IsInRange s.now }
-    ensures { IfOk result (λ list. Pairwise IsFixedOctagon s.now.fixed list.items) }
+    ensures exact { IfOk result (λ list. Pairwise IsFixedOctagon s.now.fixed list.items) }
+    ensures small { IfOk result (λ list. AllByRecursion (λ f. IsSmall f.1) list.items) }
 {
     let mut fixed = Vec::new(alloc);
     for f in s.fixed.list() {
@@ -123,8 +200,33 @@ fn fixed_of(alloc: Global, s: &Scenario) -> Result<Vec<(u32, OctNumbers)>, Alloc
     Ok(fixed)
 }
 
-/// Predicts where the participants of a scenario may be, in each of so many intervals of its step. The network is that of
-/// the scenario's lanelets.
+// The prediction that these participants make.
+fn prediction_of(
+    alloc: Global,
+    s: &Scenario,
+    participants: Vec<Participant>,
+    steps: u32,
+) -> Result<Prediction, AllocError>
+    requires range { IsInRange s.now }
+    requires steps { (1 ≤ steps) × (steps ≤ MOST_STEPS) }
+    requires few { length participants.items ≤ length s.now.movers }
+    requires small { AllByRecursion (IsSmallIn steps) participants.items }
+    ensures participants { IfOk result (λ p. p.participants ≡ participants.items) }
+    ensures fixed { IfOk result (λ p. Pairwise IsFixedOctagon s.now.fixed p.fixed) }
+    ensures steps { IfOk result (λ p. p.steps ≡ steps) }
+{
+    let fixed = fixed_of(alloc, s)?;
+    let places = places_of(alloc, &participants, steps)?;
+    Ok(Prediction {
+        participants,
+        fixed,
+        steps,
+        places,
+    })
+}
+
+/// Predicts where the participants of a scenario may be, in each of so many intervals of its step, 1 to 100. The network is
+/// that of the scenario's lanelets.
 ///
 /// `TooManyLanePolygons` comes exactly where the participants have more than 262,144 lane polygons together, and says how
 /// many; the only other fault is want of memory.
@@ -136,8 +238,9 @@ pub fn predict(
 ) -> Result<Prediction, PredictFault>
     requires range { IsInRange s.now }
     requires network { net.now ≡ s.now.lanelets.entries }
-    requires steps { steps ≤ MOST_STEPS }
+    requires steps { (1 ≤ steps) × (steps ≤ MOST_STEPS) }
     ensures ok { IfOk result (λ p. IsPrediction s.now steps p) }
+    ensures pieces { IfOk result (λ p. HasPieces s.now steps p) }
     ensures few { IfOk result (λ p. (n : ℕ) → HasPairs s.now steps n → n ≤ MOST_LANE_POLYGONS) }
     ensures holds { IfOk result (λ p. AllByRecursion (λ q. HoldsMotions s.now.lanelets.entries s.now.step steps q) p.participants) }
     ensures fault { IfErr result (λ fault. IsPredictFault s.now steps fault) }
@@ -146,10 +249,7 @@ pub fn predict(
     if gathered.pairs > MOST_LANE_POLYGONS {
         return Err(PredictFault::TooManyLanePolygons(gathered.pairs));
     }
-    Ok(Prediction {
-        participants: gathered.participants,
-        fixed: fixed_of(alloc, s)?,
-    })
+    Ok(prediction_of(alloc, s, gathered.participants, steps)?)
 }
 
 /// A scenario has one number of pairs of a participant and a lane polygon.

@@ -41,7 +41,7 @@ fn network_of(alloc: Global, scenario: &Scenario) -> Result<Network, Status>
 fn prediction_of(alloc: Global, scenario: &Scenario, steps: u32) -> Result<Prediction, Status>
     requires range { IsInRange scenario.now }
     requires lanes { AreBuildable scenario.now.lanelets.entries }
-    requires steps { steps ≤ MOST_STEPS }
+    requires steps { (1 ≤ steps) × (steps ≤ MOST_STEPS) }
     ensures ok { IfOk result (λ p. IsPredicted scenario.now steps p) }
     ensures err { IfErr result (λ status. IsPastLimit scenario.now steps status) }
 {
@@ -59,7 +59,7 @@ fn prediction_of(alloc: Global, scenario: &Scenario, steps: u32) -> Result<Predi
 fn write_report<K: Sink>(alloc: Global, scenario: &Scenario, steps: u32, sink: &mut K) -> Status
     requires range { IsInRange scenario.now }
     requires lanes { AreBuildable scenario.now.lanelets.entries }
-    requires steps { steps ≤ MOST_STEPS }
+    requires steps { (1 ≤ steps) × (steps ≤ MOST_STEPS) }
     requires room { TakesPrediction scenario.now steps (λ n. K.takes sink.old n) }
     ensures report { WritesPrediction scenario.now steps (K.written sink.old) (K.written sink.new) result }
     ensures kept { (IsWritten result → ⊥) → sink.new ≡ sink.old }

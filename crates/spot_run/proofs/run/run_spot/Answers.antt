@@ -9,7 +9,7 @@ use Rattle.spot_run.proofs.Runs.{for_prediction, read_none, room}
 use Rattle.spot_run.proofs.run.run_spot.Goals as goal
 
 pub write_report-requires-clause-steps : goal.write_report-requires-clause-steps
-write_report-requires-clause-steps g c = (for_prediction (run_of c.args.words.now.items g.S.Source c.args.source.now c.load.new.source g.K.Sink c.args.sink.now c.args.sink.now Memory) c.in-Ok-Some.field-0 c.in-Ok-Some.command c.in-Ok-Some.field-0-is c.in-Ok-Some.ensures.some c.in-Ok-Some.ensures.only c.in-Ok-Some.ensures.ranges c.in-Predict.is).range.steps.1
+write_report-requires-clause-steps g c = (for_prediction (run_of c.args.words.now.items g.S.Source c.args.source.now c.load.new.source g.K.Sink c.args.sink.now c.args.sink.now Memory) c.in-Ok-Some.field-0 c.in-Ok-Some.command c.in-Ok-Some.field-0-is c.in-Ok-Some.ensures.some c.in-Ok-Some.ensures.only c.in-Ok-Some.ensures.ranges c.in-Predict.is).range.steps
 
 pub write_report-requires-clause-room : goal.write_report-requires-clause-room
 write_report-requires-clause-room g c = room (run_of c.args.words.now.items g.S.Source c.args.source.now c.load.new.source g.K.Sink c.args.sink.now c.args.sink.now Memory) (λ n. g.K.Sink.takes c.args.sink.now n) c.in-Ok.scenario c.in-Ok-Some.command c.in-Ok.ensures.scenario.0 c.requires (for_prediction (run_of c.args.words.now.items g.S.Source c.args.source.now c.load.new.source g.K.Sink c.args.sink.now c.args.sink.now Memory) c.in-Ok-Some.field-0 c.in-Ok-Some.command c.in-Ok-Some.field-0-is c.in-Ok-Some.ensures.some c.in-Ok-Some.ensures.only c.in-Ok-Some.ensures.ranges c.in-Predict.is) (λ bytes is. (c.in-Ok.ensures.told bytes is).1) c.in-Ok.ensures.scenario.1 c.in-Ok.ensures.range c.in-Ok.ensures.lanes
