@@ -1,0 +1,16 @@
+pub mod Parts
+pub mod Pairs
+pub mod Boxes
+pub mod Sides
+pub mod Corners
+pub mod Frames
+pub mod Reaching
+pub mod CellCuts
+pub mod NextLists
+pub mod Holding
+pub mod Stretches
+pub mod Rooms
+pub mod Arguments
+pub mod Groups
+pub mod GroupFills
+pub mod Laws
