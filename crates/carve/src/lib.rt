@@ -18,3 +18,6 @@ pub use sets::{SetList, cut};
 pub fn rows_are_boxes()
     ensures { RowsAreBoxes }
 {}
+
+#[cfg(test)]
+mod tests;

@@ -23,3 +23,8 @@ pub fn tables_collect()
 pub fn merged_sets_hold()
     ensures { MergedSetsHold }
 {}
+
+#[cfg(test)]
+mod cell_rows;
+#[cfg(test)]
+mod tests;

@@ -1,5 +1,5 @@
 //! Tests against worked values, and against values of a program that was written apart from this one.
-ghost use Rattle.std.specs.Prelude.{◌≡◌, ◌↔◌, ◌<◌, ◌≤◌, IsTrue, length};
+ghost use Rattle.std.specs.Prelude.{◌≡◌, ◌↔◌, ◌<◌, ◌≤◌, IfOk, IsTrue, length};
 ghost use Rattle.std.specs.List.{AllByRecursion};
 ghost use Rattle.propagate.specs.Children.{IsStepPoint};
 
@@ -7,6 +7,7 @@ use super::*;
 use crate::child_rows::{ROWS, Row};
 use base_sets::{BaseSet, EgoBounds, OuterBox};
 use convex_poly::{Poly, Pt, hull, segment};
+use std::alloc::{AllocError, Global};
 use std::process::Abort;
 use std::test::Fail;
 
@@ -28,13 +29,22 @@ fn is_step_point(corner: Pt) -> bool
     corner.x.unsigned_abs() <= 30_000_000_000_000 && corner.y.unsigned_abs() <= 900_000
 }
 
-/// The polygon of the corners of a row.
-fn polygon_of(rt: &impl Abort, row: usize, corners: &[Pt]) -> Poly
-    ensures { AllByRecursion IsStepPoint result }
+/// The polygon of corners of these places and speeds.
+fn polygon_of(
+    rt: &impl Abort,
+    alloc: Global,
+    row: usize,
+    pairs: &[(i64, i64)],
+) -> Result<Poly, AllocError>
+    ensures { IfOk result (λ p. AllByRecursion IsStepPoint p) }
 {
+    let mut corners = Vec::new(alloc);
+    for pair in pairs {
+        corners.push(at(pair.0, pair.1))?;
+    }
     assert!(rt; !corners.is_empty() && corners.len() <= 20, "row {row}");
-    assert!(rt; are_step_points(corners), "row {row}");
-    hull_of(corners)
+    assert!(rt; are_step_points(&corners), "row {row}");
+    Ok(hull_of(&corners))
 }
 
 /// The hull of at most 20 corners.
@@ -55,10 +65,19 @@ fn corners_of(polygon: &Option<Poly>) -> &[Pt] {
     }
 }
 
+/// Whether corners have these places and speeds.
+fn are_corners(corners: &[Pt], pairs: &[(i64, i64)]) -> bool {
+    corners.len() == pairs.len()
+        && corners
+            .iter()
+            .zip(pairs)
+            .all(|(corner, pair)| corner.x == pair.0 && corner.y == pair.1)
+}
+
 #[test]
 fn numbers_and_children(rt: HostRuntime) -> Result<(), Fail> {
     for (row, given) in ROWS.iter().enumerate() {
-        let p = polygon_of(&rt, row, given.corners);
+        let p = polygon_of(&rt, rt.alloc(), row, given.corners)?;
         let Row {
             a,
             v,
@@ -81,7 +100,7 @@ fn numbers_and_children(rt: HostRuntime) -> Result<(), Fail> {
             "row {row}"
         );
         let child = plane_child(&p, &EgoBounds { a, v }, k, lo, hi);
-        assert_eq!(rt; corners_of(&child), given.child, "row {row}");
+        assert!(rt; are_corners(corners_of(&child), given.child), "row {row}");
     }
     Ok(())
 }
