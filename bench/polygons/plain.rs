@@ -1,41 +1,41 @@
-//! The same calls as `measured`, in plain Rust without contracts.
+//! The same calls as `measured`, in plain Rust without contracts. `bench/steps` uses its polygons too.
 
 use std::time::Instant;
 
 #[derive(Clone, Copy, PartialEq, Eq, PartialOrd, Ord)]
-struct Pt {
-    x: i64,
-    y: i64,
+pub struct Pt {
+    pub x: i64,
+    pub y: i64,
 }
 
 const NONE: Pt = Pt { x: 0, y: 0 };
 
 /// A list of points on the stack.
 #[derive(Clone, Copy)]
-struct Points<const N: usize> {
-    items: [Pt; N],
-    len: usize,
+pub struct Points<const N: usize> {
+    pub items: [Pt; N],
+    pub len: usize,
 }
 
 impl<const N: usize> Points<N> {
-    fn new() -> Self {
+    pub fn new() -> Self {
         Points {
             items: [NONE; N],
             len: 0,
         }
     }
 
-    fn push(&mut self, p: Pt) {
+    pub fn push(&mut self, p: Pt) {
         self.items[self.len] = p;
         self.len += 1;
     }
 
-    fn list(&self) -> &[Pt] {
+    pub fn list(&self) -> &[Pt] {
         &self.items[..self.len]
     }
 }
 
-type Poly = Points<20>;
+pub type Poly = Points<20>;
 
 fn cross(a: Pt, b: Pt, c: Pt) -> i128 {
     i128::from(b.x - a.x) * i128::from(c.y - a.y) - i128::from(b.y - a.y) * i128::from(c.x - a.x)
@@ -54,7 +54,7 @@ fn chain(points: impl Iterator<Item = Pt>) -> Points<64> {
     chain
 }
 
-fn hull(points: &[Pt]) -> Poly {
+pub fn hull(points: &[Pt]) -> Poly {
     let mut sorted: Points<64> = Points::new();
     for p in points {
         sorted.push(*p);
@@ -105,12 +105,12 @@ fn contains(poly: &Poly, p: Pt) -> bool {
     }
 }
 
-fn support(poly: &Poly, nx: i64, ny: i64) -> i64 {
+pub fn support(poly: &Poly, nx: i64, ny: i64) -> i64 {
     poly.list().iter().map(|p| nx * p.x + ny * p.y).max().unwrap()
 }
 
 /// The whole points next to where the way from a to b, which rises in x, crosses x = c.
-fn push_crossing(points: &mut Points<64>, a: Pt, b: Pt, c: i64) {
+pub fn push_crossing(points: &mut Points<64>, a: Pt, b: Pt, c: i64) {
     let rise = i128::from(b.y - a.y) * i128::from(c - a.x);
     let width = i128::from(b.x - a.x);
     let below = rise.div_euclid(width);
@@ -153,9 +153,9 @@ fn clip_x_max(poly: &Poly, c: i64) -> Option<Poly> {
     Some(hull(points.list()))
 }
 
-type Frame = [i64; 8];
+pub type Frame = [i64; 8];
 
-fn frame_numbers(p: &Poly, k: i64) -> Frame {
+pub fn frame_numbers(p: &Poly, k: i64) -> Frame {
     [
         support(p, 0, 1),
         support(p, 1, 0),
@@ -185,7 +185,7 @@ fn rounded(points: &mut Points<12>, k: i64, position: i64, over: i64) {
     });
 }
 
-fn frame_poly(f: &Frame, k: i64) -> Poly {
+pub fn frame_poly(f: &Frame, k: i64) -> Poly {
     let mut points: Points<12> = Points::new();
     points.push(Pt { x: f[1], y: f[0] });
     rounded(&mut points, k, f[1], 2 * f[1] - f[2]);
@@ -206,12 +206,12 @@ fn frame_poly(f: &Frame, k: i64) -> Poly {
 
 const TICKS: i64 = 100;
 
-struct Draws {
-    state: u64,
+pub struct Draws {
+    pub state: u64,
 }
 
 impl Draws {
-    fn within(&mut self, size: u32) -> i64 {
+    pub fn within(&mut self, size: u32) -> i64 {
         self.state = self
             .state
             .wrapping_mul(6_364_136_223_846_793_005)
@@ -220,7 +220,7 @@ impl Draws {
         (self.state / 0x2_0000_0000 % choices) as i64 - i64::from(size)
     }
 
-    fn point(&mut self, size: u32) -> Pt {
+    pub fn point(&mut self, size: u32) -> Pt {
         let x = self.within(size);
         let y = self.within(size.min(30_000));
         Pt { x, y }
@@ -250,7 +250,7 @@ fn sample(draws: &mut Draws, size: u32) -> Sample {
     }
 }
 
-fn trace(p: &Poly) -> i64 {
+pub fn trace(p: &Poly) -> i64 {
     let corners = p.list();
     let first = corners[0];
     let last = corners[corners.len() - 1];

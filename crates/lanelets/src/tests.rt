@@ -245,6 +245,18 @@ fn too_many_cells(rt: HostRuntime) -> Result<(), Fail> {
     Ok(())
 }
 
+/// 200 km and 1 µm are one cell more than are allowed.
+#[test]
+fn one_cell_too_many(rt: HostRuntime) -> Result<(), Fail> {
+    let alloc = rt.alloc();
+    let left = vec![in alloc; (0, 4_000_000), (200_000_000_001, 4_000_000)]?;
+    let right = vec![in alloc; (0, 0), (200_000_000_000, 0)]?;
+    let long = lane(alloc, left, right, Vec::new(alloc), Vec::new(alloc));
+    let fault = build(alloc, &one(alloc, 1, long)?).err();
+    assert_eq!(rt; fault, Some(NetFault::TooManyCells(100_001)));
+    Ok(())
+}
+
 /// A lanelet may be 100 m wide, and no more.
 #[test]
 fn too_wide(rt: HostRuntime) -> Result<(), Fail> {
@@ -255,6 +267,19 @@ fn too_wide(rt: HostRuntime) -> Result<(), Fail> {
     let wider = strip(alloc, 100_000_001, 0, Vec::new(alloc), Vec::new(alloc))?;
     let fault = build(alloc, &one(alloc, 5, wider)?).err();
     assert_eq!(rt; fault, Some(NetFault::LaneTooWide(5)));
+    Ok(())
+}
+
+/// The second of two lanelets is too wide, along the x axis.
+#[test]
+fn second_too_wide_in_x(rt: HostRuntime) -> Result<(), Fail> {
+    let alloc = rt.alloc();
+    let left = vec![in alloc; (0, 0), (0, 2_000_000)]?;
+    let right = vec![in alloc; (100_000_001, 0), (100_000_000, 2_000_000)]?;
+    let wide = lane(alloc, left, right, Vec::new(alloc), Vec::new(alloc));
+    let narrow = strip(alloc, 4_000_000, 0, Vec::new(alloc), Vec::new(alloc))?;
+    let fault = build(alloc, &two(alloc, narrow, wide)?).err();
+    assert_eq!(rt; fault, Some(NetFault::LaneTooWide(2)));
     Ok(())
 }
 
