@@ -11,7 +11,7 @@ mod sets;
 
 pub use boxes::row_boxes;
 pub use occupied::Occupied;
-pub use rows::{Runs, row_runs};
+pub use rows::{Runs, row_ends, row_runs};
 pub use sets::{SetList, cut};
 
 /// The runs that the rows of a box can have are, all together, as many as its row boxes.

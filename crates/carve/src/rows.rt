@@ -136,8 +136,8 @@ fn push_span(spans: &mut Vec<Span>, first: i64, last: i64)
     }
 }
 
-// The least and the greatest y of a row of height `g`.
-fn row_ends(row: i64, g: i64) -> (i64, i64)
+/// The least and the greatest y of a row of height `g`, in µm. The least is at most 4·10^13 in size.
+pub fn row_ends(row: i64, g: i64) -> (i64, i64)
     requires low { SizeAtMost 40_000_000_000_000 (slot_low g row) }
     requires height { Within (pos 100_000) (pos 100_000_000) g }
     ensures low { result.0 ≡ slot_low g row }

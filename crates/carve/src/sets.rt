@@ -56,8 +56,8 @@ impl SetList {
         self.items.clear();
     }
 
-    // Adds a set, for which there is room.
-    fn push(&mut self, set: BaseSet)
+    /// Adds a set, for which there is room.
+    pub fn push(&mut self, set: BaseSet)
         requires { length self.old.sets < self.old.room }
         ensures { self.new ≡ record { room = self.old.room; sets = self.old.sets ++ value_of set ∷ [] } }
     {

@@ -1,12 +1,9 @@
 -- A list that turns left throughout and begins with the point before all others is a corner list.
 use Rattle.std.proofs.Common.{◌≡◌, ℕ, suc, ◌<◌, arith, refl, sym, ap, subst, List, [], ◌∷◌, length, get_or, inl, inr}
 use Rattle.std.specs.List.{AllByRecursion}
-use lib.IntN.{pos}
-use lib.Signed.{◌<ℤ◌}
 use Rattle.spot_terms.specs.declared.plain.Pt.{Pt}
 use Rattle.spot_terms.specs.Hull.{Before, edges_to, IsCornerList}
-use Rattle.convex_poly.specs.Turns.{cross, TurnsLeft}
-use Rattle.convex_poly.proofs.Crosses.{cross_turn}
+use Rattle.convex_poly.specs.Turns.{TurnsLeft}
 use Rattle.convex_poly.proofs.Corners.{IsBeside}
 use Rattle.spot_terms.proofs.Places.{same_index, all_by_index, compare3}
 use Rattle.convex_poly.proofs.Chains.{lt_turn}

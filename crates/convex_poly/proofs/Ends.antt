@@ -1,5 +1,5 @@
 -- The corners of the hull of two points.
-use Rattle.std.proofs.Common.{◌≡◌, ◌⊎◌, arith, refl, sym, subst, inl, inr, [], ◌∷◌}
+use Rattle.std.proofs.Common.{◌≡◌, ◌⊎◌, arith, refl, sym, inl, inr, [], ◌∷◌}
 use Rattle.std.proofs.lemmas.Int.{ints, by_lt_z}
 use lib.IntN.{ℤ}
 use lib.Signed.{◌≤ℤ◌, ◌<ℤ◌}

@@ -4,7 +4,7 @@ ghost use Rattle.spot_terms.specs.Whole.{SizeAtMost, Within};
 ghost use Rattle.convex_poly.specs.Polygons.{IsPolygon, IsPosition};
 ghost use Rattle.convex_poly.specs.Runs.{AreLeft, IsBetween, IsBoxed, IsInRows, IsQuotient, IsRun, IsSpan, IsStart};
 
-use crate::plane::{times, offset};
+use crate::plane::{offset, times};
 use spot_num::div_floor;
 use spot_terms::Pt;
 

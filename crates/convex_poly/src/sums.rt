@@ -9,8 +9,8 @@ ghost use Rattle.convex_poly.specs.Sums.{GoesFirst, IsPart, IsSumPath, IsSumSide
 
 use crate::chain::put_chain;
 use crate::hulls::{push_all, put_joined};
-use crate::segments::is_before;
 use crate::plane::{minus, turn};
+use crate::segments::is_before;
 use arrayvec::ArrayVec;
 use spot_terms::Pt;
 
@@ -114,8 +114,7 @@ fn goes_first(a: &[Pt], b: &[Pt], i: usize, j: usize) -> bool
     ensures { IsTrue result ↔ GoesFirst a.now b.now i j }
 {
     i + 1 < a.len()
-        && (j + 1 >= b.len()
-            || turn(&minus(&a[i + 1], &a[i]), &minus(&b[j + 1], &b[j])) >= 0)
+        && (j + 1 >= b.len() || turn(&minus(&a[i + 1], &a[i]), &minus(&b[j + 1], &b[j])) >= 0)
 }
 
 /// The sum of two points.

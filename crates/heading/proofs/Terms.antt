@@ -1,6 +1,6 @@
 -- A term of the series against the exact one.
 use Rattle.std.proofs.Common.{◌≡◌, ℕ, zero, suc, ◌+◌, ◌-◌, ◌*◌, ◌/◌, ◌^◌, ◌<◌, ◌≤◌, refl, arith, ap, sym, ◌∙◌, inl, inr, mul-le-mul, mul-le-mul_right}
-use Rattle.std.proofs.Math.Nat.{pow-suc, pow-zero, le_of_mul-le-mul_right, mul-div_left, one-le-pow}
+use Rattle.std.proofs.Math.Nat.{pow-suc, pow-zero, le_of_mul-le-mul_right, mul-div_left}
 use Rattle.std.proofs.lemmas.Nat.{pow-add, mul-pow}
 use Rattle.std.proofs.lemmas.Bool.{cases_lt}
 use Rattle.spot_terms.specs.Directions.{factorial, rough_term, denominator}

@@ -16,8 +16,8 @@ use crate::levels::settle;
 use crate::nearby::Nearby;
 use crate::numbers::{Numbers, one_or_none};
 use crate::pairs::side_pairs;
-use std::alloc::{AllocError, Global};
 use spot_terms::MOST_CELLS;
+use std::alloc::{AllocError, Global};
 
 /// For each cell the number of its class, which is the least of the cells to which side moves lead from it, and for each
 /// number the cells of that class, in order.

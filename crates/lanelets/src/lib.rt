@@ -4,8 +4,8 @@
 ghost use Rattle.spot_terms.specs.PartCounts.{PartCountsAre};
 
 mod ahead;
-mod bridges;
 mod boxes;
+mod bridges;
 mod building;
 mod cell;
 mod classes;

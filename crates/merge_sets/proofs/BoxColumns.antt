@@ -106,6 +106,7 @@ module _ (o : OuterBox) (grid : Grid) (k : ℕ) (x y : List Pt) (box : IsBox o) 
   -- the first cell that is met is one of the box
   pub first_cell : IsCellOf o grid left low
   first_cell = (record { low = met_columns.low; high = at_most_trans left right (slot grid.w o.xhi) met_columns.order met_columns.high }, record { low = met_rows.low; high = at_most_trans low high (slot grid.g o.yhi) met_rows.order met_rows.high })
+
   -- what the calls ask
   pub room_is : n * column_of o grid ≤ cells_of grid.w grid.g (rect_of_box o)
   room_is = columns_within a n (slots_met grid.w o.xlo o.xhi) (column_of o grid) columns_fit

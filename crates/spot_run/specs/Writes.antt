@@ -12,7 +12,6 @@ use Rattle.spot_terms.specs.declared.scenario.Scenario.{Scenario}
 use Rattle.spot_terms.specs.declared.status.Status.{Status}
 use Rattle.spot_terms.specs.declared.status.Status.TheVariants.{Open, Limit, WriteFault, Memory}
 use Rattle.spot_terms.specs.declared.status.Which.TheVariants.{TooManyCells, LaneTooWide, TooManyLanePolygons}
-
 use Rattle.participants.specs.Predictions.{HoldsMotions, Occupancies, IsPrediction}
 use Rattle.spot_run.specs.Lines.{prediction_lines}
 

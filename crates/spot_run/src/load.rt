@@ -43,7 +43,11 @@ pub fn load<S: Source>(alloc: Global, source: &mut S) -> Result<Scenario, Status
     let bytes = match read_all(alloc, source) {
         Ok(bytes) => bytes,
         Err(ReadEnd::Fault) => return Err(Status::ReadFault),
-        Err(ReadEnd::TooLong) => return Err(Status::Limit(Which::TooLong, 0, MOST_BYTES as u64 + 1)),
+        Err(ReadEnd::TooLong) => return Err(Status::Limit(
+            Which::TooLong,
+            0,
+            MOST_BYTES as u64 + 1,
+        )),
         Err(ReadEnd::Memory) => return Err(Status::Memory),
     };
     let tree = match read_tree(alloc, &bytes) {

@@ -1,5 +1,4 @@
 use Rattle.std.proofs.Common.{refl}
-use Rattle.spot_terms.specs.declared.plain.Pt.{Pt}
 use Rattle.spot_terms.proofs.ListLemmas.{all_of}
 use Rattle.spot_terms.proofs.Places.{all_places, below_and_here}
 use Rattle.convex_poly.specs.Polygons.{IsPosition}

@@ -1,0 +1,9 @@
+pub mod LimitSteps
+pub mod Searching
+pub mod Listing
+pub mod Filling
+pub mod Putting
+pub mod RowCodes
+pub mod Stepping
+pub mod Growing
+pub mod Starting
