@@ -15,7 +15,7 @@ use Rattle.participants.specs.Places.{piece_at, places_in, nobody, IsKept, IsPla
 use Rattle.participants.specs.Predictions.{IsSmall, IsSmallIn, Occupancies}
 use Rattle.participants.specs.declared.participant.Participant.{Participant}
 use Rattle.participants.specs.declared.places.Place.{Place}
-use Rattle.participants.proofs.Marks.{count_small}
+use Rattle.participants.proofs.Ranks.{count_small}
 
 in_back : {X : Type 0} (xs ys : List X) (i : ℕ) → slice_get (xs ++ ys) (length xs + i) ≡ slice_get ys i
 in_back [] ys i = ap (slice_get ys) (let z : 0 + i ≡ i = omega arith in z)

@@ -1,6 +1,6 @@
 pub mod FoundPieces
 pub mod Heights
-pub mod Marks
+pub mod Ranks
 pub mod Octagons
 pub mod OneNumber
 pub mod Outsets

@@ -46,28 +46,28 @@ HaveFewPolygons participants = AllByRecursion (λ p. length p.polys ≤ MOST_LAN
 
 -- ---- finding the place of a rank
 
--- all places, and how many intervals are marked
+-- all places, and of how many intervals they are counted
 pub record PlaceTable : Type 0 where
   pub places : List Place
   pub intervals : ℕ
 
--- so many places of the interval stand before this one of all places
-pub record IsMark (places : List Place) (interval rank mark : ℕ) : Type 0 where
-  pub within : mark ≤ length places
-  pub before : length (places_in interval (take mark places)) ≡ rank
+-- how many places of the interval stand before this one of all places
+abbrev pub count_before : List Place → ℕ → ℕ → ℕ
+count_before places interval i = length (places_in interval (take i places))
 
--- how many places the interval has, and marks by which each of them is found
-pub record IsMarked (places : List Place) (interval : ℕ) (marked : Interval) : Type 0 where
-  pub count : marked.count ≡ length (places_in interval places)
-  pub enough : marked.count ≤ 8 * length marked.marks
-  pub marks : (j : ℕ) → j < length marked.marks → IsMark places interval (8 * j) (slice_index_or marked.marks j 0)
+-- how many places the interval has, and how many of them stand before each block of 64 places
+pub record IsCounted (places : List Place) (interval : ℕ) (counted : Interval) : Type 0 where
+  pub count : counted.count ≡ length (places_in interval places)
+  pub all : length places ≤ length counted.before * 64
+  pub needed : length counted.before * 64 < length places + 64
+  pub before : (b : ℕ) → b < length counted.before → slice_index_or counted.before b 0 ≡ count_before places interval (b * 64)
 
 abbrev pub no_interval : Interval
-no_interval = record { count = 0; marks = [] }
+no_interval = record { count = 0; before = [] }
 
--- each of the intervals is marked
-pub record AreMarked (places : List Place) (intervals : List Interval) : Type 0 where
-  pub each : (m : ℕ) → m < length intervals → IsMarked places m (slice_index_or intervals m no_interval)
+-- the places of each of the intervals are counted
+pub record AreCounted (places : List Place) (intervals : List Interval) : Type 0 where
+  pub each : (m : ℕ) → m < length intervals → IsCounted places m (slice_index_or intervals m no_interval)
 
 -- ---- what is true of what a prediction keeps
 

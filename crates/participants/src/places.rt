@@ -1,10 +1,11 @@
 //! Where the pieces of each interval are kept.
 
 ghost use Rattle.std.specs.Prelude.{◌≡◌, ◌+◌, ◌<◌, ◌≤◌, ◌++◌, ℕ, List, Some, length, slice_get, slice_index_or, IfOk};
+ghost use Rattle.std.specs.List.Sorted.{IsNonDecreasingBy};
 ghost use Rattle.spot_terms.specs.Lists.{Pairwise};
 ghost use Rattle.spot_terms.specs.Pieces.{Piece};
 ghost use Rattle.participants.specs.Pieces.{participant_pieces};
-ghost use Rattle.participants.specs.Places.{nobody, places_in, ArePlaces, HaveFewPolygons, IsMarked, IsPlaceOf};
+ghost use Rattle.participants.specs.Places.{nobody, places_in, ArePlaces, HaveFewPolygons, IsCounted, IsPlaceOf};
 
 use crate::participant::Participant;
 use spot_terms::{IdList, MOST_LANE_POLYGONS, MOST_OBSTACLES, MOST_STEPS};
@@ -20,20 +21,21 @@ pub struct Place {
     pub first: u32,
 }
 
-// How many places of an interval lead from one mark to the next.
-const STRIDE: u32 = 8;
+// How many of all places are a block.
+const BLOCK: usize = 64;
 
-// How many places an interval has, and where every eighth of them stands among all places, from the first of them on.
+// How many places an interval has, and how many of them stand before each block.
 #[derive(Drop)]
 struct Interval {
     count: u32,
-    marks: IdList,
+    before: IdList,
 }
 
 /// The places of all participants, in document order. An interval has those whose first interval isn't later.
 ///
 /// A list of its own for each interval would be the longer the more intervals there are, 100 at most: many times the lane
-/// polygons themselves. Marks take an eighth of that, and lead to each place in a few steps.
+/// polygons themselves. So an interval has only a number for each block of 64 places. These numbers rise, so that a binary
+/// search finds the block of a place, and at most 64 places are looked at, however few of them are the interval's.
 #[derive(Drop)]
 pub struct Places {
     items: Vec<Place>,
@@ -42,13 +44,13 @@ pub struct Places {
 
 impl Model for Places {
     ghost use Rattle.std.specs.Prelude.{length};
-    ghost use Rattle.participants.specs.Places.{PlaceTable, AreMarked};
+    ghost use Rattle.participants.specs.Places.{PlaceTable, AreCounted};
 
     ghost Value = { PlaceTable };
 
     ghost view = { λ t. record { places = t.items.items; intervals = length t.intervals.items } };
 
-    ghost invariant = { λ t. AreMarked t.items.items t.intervals.items };
+    ghost invariant = { λ t. AreCounted t.items.items t.intervals.items };
 }
 
 impl Places {
@@ -66,9 +68,12 @@ impl Places {
         requires rank { rank < length (places_in interval self.now.places) }
         ensures { slice_get (places_in interval self.now.places) rank ≡ Some result }
     {
-        let mark = self.intervals[interval as usize].marks.list()[(rank / STRIDE) as usize];
-        let mut left = rank % STRIDE;
-        for at in mark as usize..self.items.len() {
+        let before = self.intervals[interval as usize].before.list();
+        let block = last_up_to(before, rank);
+        let from = block * BLOCK;
+        let to = (from + BLOCK).min(self.items.len());
+        let mut left = rank - before[block];
+        for at in from..to {
             let place = self.items[at];
             if place.first <= interval {
                 if left == 0 {
@@ -79,6 +84,18 @@ impl Places {
         }
         unreachable!()
     }
+}
+
+// Which is the last of these numbers that isn't above `most`, where none is below an earlier one.
+fn last_up_to(numbers: &[u32], most: u32) -> usize
+    requires rise { IsNonDecreasingBy (λ n. n) numbers.now }
+    requires some { 0 < length numbers.now }
+    requires first { slice_index_or numbers.now 0 0 ≤ most }
+    ensures within { result < length numbers.now }
+    ensures up_to { slice_index_or numbers.now result 0 ≤ most }
+    ensures next { result + 1 < length numbers.now → most < slice_index_or numbers.now (result + 1) 0 }
+{
+    numbers.partition_point(|n| *n <= most) - 1
 }
 
 // Appends the places of one participant.
@@ -126,23 +143,23 @@ fn all_places(alloc: Global, participants: &[Participant]) -> Result<Vec<Place>,
     Ok(places)
 }
 
-// Counts and marks the places of an interval.
-fn marked(alloc: Global, places: &[Place], interval: u32) -> Result<Interval, AllocError>
+// Counts the places of an interval, all of them and those before each block.
+fn counted(alloc: Global, places: &[Place], interval: u32) -> Result<Interval, AllocError>
     requires { length places.now ≤ 1_073_741_824 }
-    ensures { IfOk result (λ marked. IsMarked places.now interval marked) }
+    ensures { IfOk result (λ counted. IsCounted places.now interval counted) }
 {
     let mut count: u32 = 0;
-    let mut marks = Vec::new(alloc);
+    let mut before = Vec::new(alloc);
     for (at, place) in places.iter().enumerate() {
+        if at % BLOCK == 0 {
+            before.push(count)?;
+        }
         if place.first <= interval {
-            if count as usize == STRIDE as usize * marks.len() {
-                marks.push(at as u32)?;
-            }
             count += 1;
         }
     }
-    let marks = IdList::from_vec(marks);
-    Ok(Interval { count, marks })
+    let before = IdList::from_vec(before);
+    Ok(Interval { count, before })
 }
 
 /// The places of all participants in the intervals below `steps`. The only error is want of memory.
@@ -161,7 +178,7 @@ pub fn places_of(
     let items = all_places(alloc, participants)?;
     let mut intervals = Vec::new(alloc);
     for interval in 0..steps {
-        intervals.push(marked(alloc, &items, interval)?)?;
+        intervals.push(counted(alloc, &items, interval)?)?;
     }
     Ok(Places { items, intervals })
 }
