@@ -30,7 +30,7 @@ module _ (s : Scenario) (c : Command) where
   pub replay_pieces : (ps : ℕ → List Piece) → c.task ≡ Replay → ArePieces s c ps → (i : ℕ) → i ≤ c.steps → ps i ≡ recorded_pieces s (ego_radius c) i
   replay_pieces ps e h = rw e at h
 
-  area_same : (ps qs : ℕ → List Piece) → c.task ≡ Area → ArePieces s c ps → ArePieces s c qs → (i : ℕ) → i ≤ c.steps → ps i ≡ qs i
+  pub area_same : (ps qs : ℕ → List Piece) → c.task ≡ Area → ArePieces s c ps → ArePieces s c qs → (i : ℕ) → i ≤ c.steps → ps i ≡ qs i
   area_same ps qs e h k i within =
       let (os, a, f) = area_pieces ps e h in
       let (other, b, g) = area_pieces qs e k in

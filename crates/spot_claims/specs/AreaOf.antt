@@ -1,5 +1,5 @@
 -- The area of a command and a scenario: its pieces, the lists of its steps, and what is written of them.
-use Rattle.std.specs.Prelude.{◌≡◌, ℕ, ◌+◌, ◌≤◌, List, [], ◌∷◌, ◌++◌, map, length, Some, slice_get, sum_by}
+use Rattle.std.specs.Prelude.{◌≡◌, ℕ, zero, suc, ◌+◌, ◌<◌, ◌≤◌, List, [], ◌∷◌, ◌++◌, map, length, Some, slice_get, sum_by}
 use Rattle.spot_terms.specs.BaseSets.{SetValue}
 use Rattle.spot_terms.specs.Cells.{cells}
 use Rattle.spot_terms.specs.Courses.{Course, box_at}
@@ -9,7 +9,7 @@ use Rattle.spot_terms.specs.Participants.{HasPairs}
 use Rattle.spot_terms.specs.Pieces.{Piece, Hits, range_of}
 use Rattle.spot_terms.specs.Report.{Line, head_line, time_line, ego_line, disc_line, set_line, count_line, last_line}
 use Rattle.spot_terms.specs.RowBoxes.{HasTooManyBoxes, IsWithinArea}
-use Rattle.spot_terms.specs.StepLists.{AreStepLists}
+use Rattle.spot_terms.specs.StepLists.{IsNextList, IsFirstList, AreStepLists}
 use Rattle.spot_terms.specs.Summaries.{summary_text}
 use Rattle.spot_terms.specs.declared.command.Command.{Command}
 use Rattle.spot_terms.specs.declared.command.Task.{Task}
@@ -17,6 +17,7 @@ use Rattle.spot_terms.specs.declared.command.Task.TheVariants.{Replay}
 use Rattle.spot_terms.specs.declared.lines.End.{End}
 use Rattle.spot_terms.specs.declared.lines.Mode.TheVariants as mode
 use Rattle.spot_terms.specs.declared.plain.Disc.{Disc}
+use Rattle.spot_terms.specs.declared.plain.Pt.{Pt}
 use Rattle.spot_terms.specs.declared.scenario.Problem.{Problem}
 use Rattle.spot_terms.specs.declared.scenario.Scenario.{Scenario}
 use Rattle.spot_claims.specs.Problems.{ego_radius, IsChosen, course_of, ego_of}
@@ -75,6 +76,48 @@ pub record IsReplayReport (s : Scenario) (c : Command) (lines : List Line) (end 
   pub lists : List (List SetValue)
   pub run : IsRun s c problem pieces lists end
   pub lines_are : lines ≡ head_line mode.Replay ∷ time_line s.step c.steps ∷ area_lines problem (course_of s c problem) (discs s (ego_radius c)) lists end
+
+-- ---- what is written before the last step is made
+
+module _ (course : Course) (count : ℕ → ℕ) (Hits : ℕ → ℕ → Pt → Type 0) where
+  -- lists that follow that of step i, where step n is the last: there may be more of them
+  abbrev pub FollowSoFar : ℕ → ℕ → List SetValue → List (List SetValue) → Type 0
+  FollowSoFar n i sets [] = Unit {0}
+  FollowSoFar n i [] (next ∷ later) = ⊥
+  FollowSoFar n i (b ∷ sets) (next ∷ later) = (i < n) × IsNextList course (suc i) (b ∷ sets) (count (suc i)) (Hits (suc i)) next × FollowSoFar n (suc i) next later
+
+  -- the lists of the first steps, from step 0 on
+  abbrev pub AreListsSoFar : ℕ → List (List SetValue) → Type 0
+  AreListsSoFar n [] = ⊥
+  AreListsSoFar n (first ∷ later) = IsFirstList course count Hits first × FollowSoFar n 0 first later
+
+-- a run as far as its steps are made
+pub record IsRunSoFar (s : Scenario) (c : Command) (problem : Problem) (pieces : ℕ → List Piece) (lists : List (List SetValue)) : Type 0 where
+  pub chosen : IsChosen s c problem
+  pub pieces_are : ArePieces s c pieces
+  pub lists_are : AreListsSoFar (course_of s c problem) (λ i. length (pieces i)) (λ i. Hits (pieces i)) c.steps lists
+
+-- the ego and the first steps
+abbrev pub lines_so_far : Problem → Course → (ℕ → List Disc) → List (List SetValue) → List Line
+lines_so_far problem course recorded lists = ego_line (ego_of problem course) ∷ lines_from recorded 0 lists
+
+-- the report up to a step
+pub record IsAreaBeginning (s : Scenario) (c : Command) (lines : List Line) : Type 0 where
+  pub traffic : List Line
+  pub traffic_is : IsTraffic s c traffic
+  pub problem : Problem
+  pub pieces : ℕ → List Piece
+  pub lists : List (List SetValue)
+  pub run : IsRunSoFar s c problem pieces lists
+  pub lines_are : lines ≡ head_line mode.Area ∷ time_line s.step c.steps ∷ traffic ++ lines_so_far problem (course_of s c problem) (λ i. []) lists
+
+-- the same where traffic is recorded
+pub record IsReplayBeginning (s : Scenario) (c : Command) (lines : List Line) : Type 0 where
+  pub problem : Problem
+  pub pieces : ℕ → List Piece
+  pub lists : List (List SetValue)
+  pub run : IsRunSoFar s c problem pieces lists
+  pub lines_are : lines ≡ head_line mode.Replay ∷ time_line s.step c.steps ∷ lines_so_far problem (course_of s c problem) (discs s (ego_radius c)) lists
 
 -- ---- the drawing, of the last step that is made
 

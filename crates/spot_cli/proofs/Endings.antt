@@ -135,7 +135,6 @@ module _ (run : Run) (after : Option (List ℕ)) (faults : ℕ) (status : Status
           scenario_is = writes.scenario_is;
           within = writes.within;
           text = writes.text;
-          ends = writes.ends;
           output = writes.output;
           front = writes.front;
           back = writes.back;
@@ -143,7 +142,7 @@ module _ (run : Run) (after : Option (List ℕ)) (faults : ℕ) (status : Status
           appended = writes.appended;
           whole = λ done.
               let w = writes.whole (was_done run.status status sent.ends done) in
-              (w.0, same_done run.status status sent.ends done ∙ w.1);
+              record { ends = w.ends; output = w.output; status_is = same_done run.status status sent.ends done ∙ w.status_is };
         },
       )
 

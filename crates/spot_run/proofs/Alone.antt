@@ -5,9 +5,9 @@ use Rattle.spot_terms.specs.Ids.{HaveUniqueIds}
 use Rattle.spot_terms.specs.Lists.{Includes, AreDistinct, numbers_from}
 use Rattle.spot_terms.specs.Participants.{starting}
 use Rattle.spot_terms.specs.Reach.{interval_numbers, disc_numbers}
-use Rattle.spot_terms.specs.Report.{Line, mover_line, late_line, fixed_line, occ_line, last_line}
+use Rattle.spot_terms.specs.Report.{Line, mover_line, late_line, fixed_line, occ_line}
 use Rattle.spot_terms.specs.declared.lines.MoverLine.{MoverLine}
-use Rattle.spot_terms.specs.declared.lines.End.TheVariants as end
+use Rattle.spot_terms.specs.declared.lines.Mode.{Mode}
 use Rattle.spot_terms.specs.declared.scenario.Fixed.{Fixed}
 use Rattle.spot_terms.specs.declared.scenario.Mover.{Mover}
 use Rattle.spot_terms.specs.declared.scenario.Scenario.{Scenario}
@@ -19,7 +19,7 @@ use Rattle.spot_claims.specs.ParticipantClaims.{pt}
 use Rattle.spot_claims.proofs.Entered.{passes, from_second}
 use Rattle.participants.specs.declared.participant.Participant.{Participant}
 use Rattle.participants.specs.Predictions.{IsParticipant, IsFixedOctagon, Occupancies, IsPrediction}
-use Rattle.spot_run.specs.Lines.{line_of, obstacle_lines, octagon_line, octagon_lines, occupancy_lines, polygon_line, lane_lines, traffic_lines, prediction_lines}
+use Rattle.spot_run.specs.Lines.{line_of, obstacle_lines, octagon_line, octagon_lines, occupancy_lines, polygon_line, lane_lines, traffic_lines, report_lines}
 
 -- ---- where a line comes from
 
@@ -83,14 +83,30 @@ traffic_at ms o l i = elim (includes_either (obstacle_lines ms o.participants ++
   | inr j ↦ occupancy_at o l j
 ]
 
-line_at : (k steps : ℕ) (ms : List Mover) (o : Occupancies) (l : Line) → Includes (prediction_lines k steps ms o) l → At o l
+-- a line that is of no obstacle
+abbrev pub IsOther : Line → Type 0
+IsOther (mover_line v) = ⊥
+IsOther (fixed_line id numbers) = ⊥
+IsOther (occ_line id i numbers) = ⊥
+IsOther line = Unit {0}
+
+abbrev pub AreOthers : List Line → Type 0
+AreOthers lines = (l : Line) → Includes lines l → IsOther l
+
+other_at : (o : Occupancies) (l : Line) → IsOther l → At o l
 unfolding At
-line_at k steps ms o l (inl e) = subst (At o) (sym e) tt
-line_at k steps ms o l (inr (inl e)) = subst (At o) (sym e) tt
-line_at k steps ms o l (inr (inr i)) = elim (includes_either (traffic_lines ms o) (last_line end.Done ∷ []) l i) [
+other_at o (mover_line v) h = absurd h
+other_at o (fixed_line id numbers) h = absurd h
+other_at o (occ_line id i numbers) h = absurd h
+other_at o line h = tt
+
+line_at : (mode : Mode) (k steps : ℕ) (ms : List Mover) (o : Occupancies) (more : List Line) (l : Line) → AreOthers more → Includes (report_lines mode k steps ms o more) l → At o l
+unfolding At
+line_at mode k steps ms o more l others (inl e) = subst (At o) (sym e) tt
+line_at mode k steps ms o more l others (inr (inl e)) = subst (At o) (sym e) tt
+line_at mode k steps ms o more l others (inr (inr i)) = elim (includes_either (traffic_lines ms o) more l i) [
   | inl j ↦ traffic_at ms o l j
-  | inr (inl e) ↦ subst (At o) (sym e) tt
-  | inr (inr j) ↦ absurd j
+  | inr j ↦ other_at o l (others l j)
 ]
 
 -- ---- one participant and one static obstacle of an id
@@ -119,17 +135,17 @@ distinct_starting (m ∷ ms) d =
     let rest : AreDistinct (map mover_id (starting ms)) = distinct_starting ms d.1 in
     elim (m.time == 0) as (λ t. AreDistinct (map mover_id (cond t (m ∷ starting ms) (starting ms)))) [ true ↦ ((λ i. d.0 (among ms (mover_id m) i)), rest) | false ↦ rest ]
 
-module _ (s : Scenario) (steps : ℕ) (o : Occupancies) (is : IsPrediction s steps o) (ids : HaveUniqueIds s) where
+module _ (mode : Mode) (more : List Line) (others : AreOthers more) (s : Scenario) (steps : ℕ) (o : Occupancies) (is : IsPrediction s steps o) (ids : HaveUniqueIds s) where
   one_participant : (p q : Participant) → Includes o.participants p → Includes o.participants q → p.id ≡ q.id → p ≡ q
   unfolding mover_id participant_id
   one_participant p q i j e =
       let same : map mover_id (starting s.movers) ≡ map participant_id o.participants = pairwise_map (IsParticipant s.lanelets.entries s.step steps) mover_id participant_id (starting s.movers) o.participants (λ m x h. sym h.id) is.participants in
       keyed_one participant_id o.participants p q (subst AreDistinct same (distinct_starting s.movers (distinct_back (map (λ (f : Fixed). f.id) s.fixed) (map mover_id s.movers) ids.obstacles))) i j e
 
-  pub mover_alone : (p : Participant) (v : MoverLine) → Includes o.participants p → Includes (prediction_lines s.step steps s.movers o) (mover_line v) → v.id ≡ p.id → v ≡ line_of p
+  pub mover_alone : (p : Participant) (v : MoverLine) → Includes o.participants p → Includes (report_lines mode s.step steps s.movers o more) (mover_line v) → v.id ≡ p.id → v ≡ line_of p
   unfolding At
   mover_alone p v i listed e =
-      let (q, j, same) = line_at s.step steps s.movers o (mover_line v) listed in
+      let (q, j, same) = line_at mode s.step steps s.movers o more (mover_line v) others listed in
       same ∙ ap line_of (one_participant q p j i (sym (ap (λ (x : MoverLine). x.id) same) ∙ e))
 
   octagon_numbers : (id from count n : ℕ) (numbers : List ℤ) (f : ℕ → List ℤ) (os : List OctNumbers) → map (λ (x : OctNumbers). x.n) os ≡ map f (numbers_from from count) → Includes (octagon_lines id from os) (occ_line id n numbers) → numbers ≡ f n
@@ -145,17 +161,17 @@ module _ (s : Scenario) (steps : ℕ) (o : Occupancies) (is : IsPrediction s ste
       octagon_numbers id (from + 1) count n numbers f os rest i
 
   pub octagon_alone : (m : Mover) (p : Participant) (n : ℕ) (numbers : List ℤ) → IsParticipant s.lanelets.entries s.step steps m p → Includes o.participants p
-      → Includes (prediction_lines s.step steps s.movers o) (occ_line p.id n numbers) → numbers ≡ interval_numbers p.start s.step n
+      → Includes (report_lines mode s.step steps s.movers o more) (occ_line p.id n numbers) → numbers ≡ interval_numbers p.start s.step n
   unfolding At
   octagon_alone m p n numbers h i listed =
-      let (q, j, id, within) = line_at s.step steps s.movers o (occ_line p.id n numbers) listed in
+      let (q, j, id, within) = line_at mode s.step steps s.movers o more (occ_line p.id n numbers) others listed in
       let own : Includes (octagon_lines p.id 0 p.octs) (occ_line p.id n numbers) = subst (λ (x : Participant). Includes (octagon_lines x.id 0 x.octs) (occ_line p.id n numbers)) (one_participant q p j i (sym id)) within in
       octagon_numbers p.id 0 steps n numbers (interval_numbers p.start s.step) p.octs (h.octagons ∙ ap (map (interval_numbers p.start s.step)) (below-from steps)) own
 
-  pub fixed_alone : (f : Fixed) (numbers : List ℤ) → Includes s.fixed f → Includes (prediction_lines s.step steps s.movers o) (fixed_line f.id numbers) → numbers ≡ disc_numbers (pt f.x f.y) f.enclosing
+  pub fixed_alone : (f : Fixed) (numbers : List ℤ) → Includes s.fixed f → Includes (report_lines mode s.step steps s.movers o more) (fixed_line f.id numbers) → numbers ≡ disc_numbers (pt f.x f.y) f.enclosing
   unfolding At mover_id
   fixed_alone f numbers i listed =
-      let (x, j, id, own) = line_at s.step steps s.movers o (fixed_line f.id numbers) listed in
+      let (x, j, id, own) = line_at mode s.step steps s.movers o more (fixed_line f.id numbers) others listed in
       let (g, k, h) = from_second IsFixedOctagon s.fixed o.fixed x is.fixed j in
       let same : g ≡ f = keyed_one (λ (y : Fixed). y.id) s.fixed g f (distinct_front (map (λ (y : Fixed). y.id) s.fixed) (map mover_id s.movers) ids.obstacles) k i (sym h.0 ∙ sym id) in
       own ∙ h.1 ∙ ap (λ (y : Fixed). disc_numbers (pt y.x y.y) y.enclosing) same

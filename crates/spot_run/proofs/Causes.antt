@@ -1,15 +1,20 @@
 -- What a run says of its answer, by how far it came.
-use Rattle.std.proofs.Common.{◌≡◌, ◌≢◌, ◌∙◌, ◌⊎◌, inl, inr, ℕ, ◌<◌, ◌≤◌, List, [], length, Option, Some, Err, refl, sym, ap, subst, arith}
+use Rattle.std.proofs.Common.{◌≡◌, ◌≢◌, ◌∙◌, ◌⊎◌, inl, inr, ℕ, suc, ◌<◌, ◌≤◌, List, [], ◌∷◌, length, Option, Some, Err, refl, sym, ap, subst, arith}
 use Rattle.spot_terms.specs.declared.limits.TheConstants.{MOST_BYTES}
 use Rattle.std.specs.Prelude.{IfSome}
 use Rattle.spot_terms.specs.Causes.{Takes}
-use Rattle.spot_terms.specs.Ids.{HaveUniqueIds}
-use Rattle.spot_terms.specs.Ranges.{IsInRange}
+use Rattle.spot_terms.specs.BaseSets.{SetValue}
+use Rattle.spot_terms.specs.Courses.{Course}
+use Rattle.spot_terms.specs.Pieces.{Hits}
 use Rattle.spot_terms.specs.Statuses.{IsDone}
-use Rattle.spot_terms.specs.Tasks.{ReadsInput, PredictsTraffic}
+use Rattle.spot_terms.specs.StepLists.{Follow, AreStepLists}
+use Rattle.spot_terms.specs.Tasks.{ReadsInput, PredictsTraffic, FindsArea}
 use Rattle.spot_terms.specs.declared.command.Command.{Command}
 use Rattle.spot_terms.specs.declared.command.Task.{Task}
-use Rattle.spot_terms.specs.declared.command.Task.TheVariants.{Predict}
+use Rattle.spot_terms.specs.declared.command.Task.TheVariants.{Predict, Area}
+use Rattle.spot_terms.specs.declared.lines.End.{End}
+use Rattle.spot_terms.specs.declared.lines.End.TheVariants as end
+use Rattle.spot_terms.specs.declared.plain.Pt.{Pt}
 use Rattle.spot_terms.specs.declared.scenario.Scenario.{Scenario}
 use Rattle.spot_terms.specs.declared.status.Code.{Code}
 use Rattle.spot_terms.specs.declared.status.Code.TheVariants.{NotJson, NotTree, NoProblem, LateProblem, EgoTooFast, NotYet}
@@ -18,21 +23,21 @@ use Rattle.spot_terms.specs.declared.status.Status.{Status}
 use Rattle.spot_terms.specs.declared.status.Status.TheVariants.{Open, Empty, BadWords, Refused, Limit, ReadFault, WriteFault, Memory}
 use Rattle.spot_tree.proofs.Readings.{one_tree, one_place, tree_is_json, fault_is_json, tree_has_no_fault}
 use Rattle.scenario.proofs.OneRefusal.{one_refusal}
-use Rattle.lanelets.specs.Buildable.{AreBuildable}
-use Rattle.spot_claims.specs.Answers.{IsOutside, ExactlyWhere, BadWordsExactly, ReadFaultOnly, TooLongExactly, NotJsonExactly, NotTreeExactly, IsRefusedAt, IsOfCheck, RefusedExactly, ExactlyFor, HasNoProblem, NoProblemExactly, HasLateProblem, LateProblemExactly, HasFastProblem, EgoTooFastExactly, HasManyCells, TooManyCellsExactly, HasWideLane, LaneTooWideExactly, HasManyPairs, TooManyLanePolygonsExactly, HasWideArea, AreaTooWideExactly, HasManyBoxes, TooManyBoxesExactly, WriteFaultOnly, NotYetExactly, AreFor, IsKnownAs, IsKnown}
+use Rattle.spot_claims.specs.Answers.{IsOutside, ExactlyWhere, BadWordsExactly, ReadFaultOnly, TooLongExactly, NotJsonExactly, NotTreeExactly, IsRefusedAt, IsOfCheck, RefusedExactly, ExactlyFor, HasNoProblem, NoProblemExactly, HasLateProblem, LateProblemExactly, HasFastProblem, EgoTooFastExactly, HasManyCells, TooManyCellsExactly, HasWideLane, LaneTooWideExactly, HasManyPairs, TooManyLanePolygonsExactly, HasWideArea, AreaTooWideExactly, HasManyBoxes, TooManyBoxesExactly, WriteFaultOnly, NotYetExactly, EndsEmpty, AreFor, IsKnownAs, IsKnown}
 use Rattle.spot_claims.specs.Built.{IsBuilt, IsBuiltWhole}
 use Rattle.spot_claims.specs.Headline.{Headline}
 use Rattle.spot_claims.specs.Outcomes.{IsAfterReading, ReadsSource, IsAcceptedInput, PassesAll, Fails, Completes, WritesOutput}
-use Rattle.spot_claims.specs.Outputs.{IsWritten}
+use Rattle.spot_claims.specs.Outputs.{IsOutputOf, IsWritten, status_of}
+use Rattle.spot_claims.specs.Problems.{course_of}
 use Rattle.spot_claims.specs.Profile.{IsAccepted, IsRefused}
 use Rattle.spot_claims.specs.Runs.{Run, ReadFails, WriteFails}
 use Rattle.spot_claims.specs.Scenario.{IsScenarioOf}
-use Rattle.spot_claims.specs.Stages.{AreNoCommand, AreForReading, IsRead, IsInput, IsAccepting, IsWithinTraffic}
+use Rattle.spot_claims.specs.Stages.{AreNoCommand, AreForReading, IsRead, IsTold, IsInput, IsAccepting}
 use Rattle.spot_claims.specs.Tree.{Element, IsTreeOf, IsNoJson, HasFaultAt}
 use Rattle.spot_run.specs.Loads.{IsReadWhole, Loads, IsLoadFault}
-use Rattle.spot_run.specs.Writes.{WritesPrediction}
-use Rattle.spot_run.proofs.Limits.{exactly_for, past_none, too_many_cells, lane_too_wide, too_many_lane_polygons}
-use Rattle.spot_run.proofs.Runs.{IsForPrediction, read_some, HasLoaded, for_reading, reads_input, predicts, finds_none, is_built, input_of, headline, output}
+use Rattle.spot_run.specs.Tells.{Tells}
+use Rattle.spot_run.proofs.Limits.{no_problem_carried, late_carried, fast_carried, cells_carried, wide_carried, many_pairs_carried, wide_area_carried, boxes_carried, no_problem_comes, late_comes, fast_comes, cells_comes, wide_comes, pairs_comes, wide_area_comes, boxes_comes, passes_done}
+use Rattle.spot_run.proofs.Runs.{IsForCommand, read_some, AreAlike, alike, HasLoaded, for_reading, reads_input, input_of, is_input, headline, output}
 
 -- all that is said of a run
 pub record AllHold (run : Run) : Type 0 where
@@ -115,6 +120,7 @@ no_command_holds run e nothing = record {
 
 whole_is_built : (task : Task) → IsBuiltWhole task → IsBuilt task
 whole_is_built Predict h = tt
+whole_is_built Area h = absurd h
 whole_is_built task h = absurd h
 
 not_built_holds : (run : Run) (c : Command) → run.status ≡ Refused NotYet 0 → run.Stands c → ((d : Command) → run.Stands d → d ≡ c) → (IsBuilt c.task → ⊥) → AllHold run
@@ -165,11 +171,19 @@ not_built_holds run c e own only not = record {
     code_other : (code : Code) (place : ℕ) → IsOfCheck code → Refused NotYet 0 ≡ Refused code place → ⊥
     code_other code place of g = subst IsOfCheck (sym (same_code code place g)) of
 
+-- ---- of the command that was read
+
+-- what is said of it is said of each that the words stand for
+exactly_for : (run : Run) (c : Command) (Cause : Scenario → Command → Type 0) (answer : Status) → IsForCommand run c
+    → ((bytes : List ℕ) → run.told ≡ Some bytes → ExactlyWhere ((s : Scenario) × IsAccepting c run.told s × Cause s c) answer run.status) → ExactlyFor run Cause answer
+exactly_for run c Cause answer for at = λ d stands. subst (λ (x : Command). IsTold x run.told → ExactlyWhere ((s : Scenario) × IsAccepting x run.told s × Cause s x) answer run.status) (sym (for.only d stands))
+    (λ told. let (bytes, is) = told (reads_input c for.built) in at bytes is)
+
 -- ---- a fault of loading
 
 -- what loading answered
 pub record HasFailed (run : Run) (c : Command) : Type 0 where
-  pub for : IsForPrediction run c
+  pub for : IsForCommand run c
   pub told : (bytes : List ℕ) → run.told ≡ Some bytes → Loads bytes run.left (Err run.status)
   pub fault : IsLoadFault run.status
   pub read : run.status ≡ ReadFault → ReadFails run
@@ -186,7 +200,7 @@ fault_not_written WriteFault fault written = fault
 fault_not_written status fault written = written
 
 -- each command that the words stand for is the one that was read
-each_for : (HasStage : Task → Type 0) (run : Run) (c : Command) → IsForPrediction run c → HasStage c.task → AreFor HasStage run
+each_for : (HasStage : Task → Type 0) (run : Run) (c : Command) → IsForCommand run c → HasStage c.task → AreFor HasStage run
 each_for HasStage run c for h = λ d stands. subst (λ (x : Command). HasStage x.task) (sym (for.only d stands)) h
 
 fault_known : (run : Run) (status : Status) → IsLoadFault status → AreFor ReadsInput run → IsKnownAs status run
@@ -299,7 +313,7 @@ limit_of bytes left status step count loads e = (subst (λ (x : Status). Loads b
 -- an accepted input leaves only want of memory and a read fault
 accepted_outside : (run : Run) (c : Command) (t : Scenario) → HasFailed run c → IsAccepting c run.told t → IsOutside run.status
 accepted_outside run c t h accepting =
-    let (told, few) = input_of c h.for.task run.told accepting.bytes accepting.input in
+    let (told, few) = input_of c h.for.built run.told accepting.bytes accepting.input in
     let (tree, tree_is, scenario) = accepting.scenario in
     outside_at accepting.bytes run.left tree run.status (h.told accepting.bytes told) h.fault few tree_is scenario.accepted
 
@@ -311,14 +325,14 @@ after_fault run c Cause answer h other = exactly_for run c Cause answer h.for (�
 })
 
 -- what is said of the completion of the command that was read is said of each that the words stand for
-complete_for : (run : Run) (c : Command) → IsForPrediction run c
+complete_for : (run : Run) (c : Command) → IsForCommand run c
     → ((bytes : List ℕ) (tree : List Element) → run.told ≡ Some bytes → length bytes ≤ MOST_BYTES → IsTreeOf bytes tree → IsAccepted tree → ((s : Scenario) → IsScenarioOf bytes s → PassesAll s c) → (Fails run → ⊥) → IsDone run.status ⊎ (run.status ≡ Memory))
     → Completes run
 complete_for run c for at = λ d bytes stands. subst (λ (x : Command). IsBuilt x.task → IsInput x run.told bytes → IsAcceptedInput x bytes → ((s : Scenario) → IsScenarioOf bytes s → PassesAll s x) → (Fails run → ⊥) → IsDone run.status ⊎ (run.status ≡ Memory))
     (sym (for.only d stands))
     (λ built input accepted passes none.
-    let (told, few) = input_of c for.task run.told bytes input in
-    let (tree, tree_is, is) = accepted (reads_input c for.task) in at bytes tree told few tree_is is passes none)
+    let (told, few) = input_of c for.built run.told bytes input in
+    let (tree, tree_is, is) = accepted (reads_input c for.built) in at bytes tree told few tree_is is passes none)
 
 fault_holds : (run : Run) (c : Command) → HasFailed run c → AllHold run
 fault_holds run c h = record {
@@ -328,12 +342,12 @@ fault_holds run c h = record {
     whole = λ bytes told for later. after_whole bytes run.left run.status later (h.told bytes told);
     limit = λ bytes step count told e. limit_of bytes run.left run.status step count (h.told bytes told) e;
   };
-  known = fault_known run run.status h.fault (each_for ReadsInput run c h.for (reads_input c h.for.task));
+  known = fault_known run run.status h.fault (each_for ReadsInput run c h.for (reads_input c h.for.built));
   bad_words = record { only = λ e. absurd (subst IsLoadFault e h.fault); comes = λ none. absurd (none c h.for.stands) };
   not_yet = record {
     only = λ e. absurd (subst IsLoadFault e h.fault);
     never = λ d stands whole e. subst IsLoadFault e h.fault;
-    comes = λ (d, stands, not). absurd (not (subst (λ (x : Command). IsBuilt x.task) (sym (h.for.only d stands)) (is_built c h.for.task)));
+    comes = λ (d, stands, not). absurd (not (subst (λ (x : Command). IsBuilt x.task) (sym (h.for.only d stands)) h.for.built));
     scenario = λ d stands built told. never (λ e. subst IsLoadFault e h.fault) (λ (t, accepting, cause). cause.left_out tt);
   };
   read_fault = λ e. (for_reading run c h.for, h.read e);
@@ -358,23 +372,71 @@ fault_holds run c h = record {
 
 -- ---- a scenario that was loaded
 
--- an answer that writing a prediction doesn't give, of a stage that a prediction hasn't
-not_of_prediction : (run : Run) (c : Command) (s : Scenario) (Cause : Scenario → Command → Type 0) (answer : Status) → HasLoaded run c s → (WritesPrediction s c.steps run.before run.after answer → ⊥) → ((t : Scenario) → Cause t c → ⊥) → ExactlyFor run Cause answer
-not_of_prediction run c s Cause answer h other none = exactly_for run c Cause answer h.for (λ bytes told. never (λ e. other (subst (WritesPrediction s c.steps run.before run.after) e h.written)) (λ (t, accepting, cause). none t cause))
+-- the scenario of an accepted input is the one that was loaded
+accepted_alike : (run : Run) (c : Command) (s t : Scenario) → HasLoaded run c s → IsAccepting c run.told t → AreAlike t s
+accepted_alike run c s t h accepting =
+    let told = (input_of c h.for.built run.told accepting.bytes accepting.input).0 in
+    alike accepting.bytes t s accepting.scenario (h.told accepting.bytes told).1
 
-written_known : (run : Run) (s : Scenario) (steps : ℕ) (before after : Option (List ℕ)) (status : Status) → WritesPrediction s steps before after status → AreFor PredictsTraffic run → IsKnownAs status run
-written_known run s steps before after Open h for = tt
-written_known run s steps before after WriteFault h for = tt
-written_known run s steps before after Memory h for = tt
-written_known run s steps before after (Limit TooManyCells step count) h for = (h.0, for)
-written_known run s steps before after (Limit LaneTooWide step id) h for = (h.0, for)
-written_known run s steps before after (Limit TooManyLanePolygons step count) h for = (h.0, for)
-written_known run s steps before after status h for = absurd h
+-- the scenario that was loaded is accepted
+accepts : (run : Run) (c : Command) (s : Scenario) (bytes : List ℕ) → HasLoaded run c s → run.told ≡ Some bytes → IsAccepting c run.told s
+accepts run c s bytes h told = record {
+  built = h.for.built;
+  bytes = bytes;
+  input = is_input c h.for.built run.told bytes told (h.told bytes told).0.0;
+  scenario = (h.told bytes told).1;
+}
 
-written_done : (run : Run) (s : Scenario) (c : Command) (status : Status) → (status ≡ WriteFault → WriteFails run) → WritesPrediction s c.steps run.before run.after status → IsWithinTraffic s c → (Fails run → ⊥) → IsDone status ⊎ (status ≡ Memory)
-written_done run s c Open cause h within none = inl tt
-written_done run s c WriteFault cause h within none = absurd (none (inr (cause refl)))
-written_done run s c status cause h within none = inr (past_none s c.steps status within.network within.pairs h)
+-- a cause that is told with the answer, and that leaves no other
+cause_of : (run : Run) (c : Command) (s : Scenario) (Cause : Scenario → Command → Type 0) (answer : Status) → HasLoaded run c s → (Tells s c run.before run.after answer → Cause s c)
+    → ((t : Scenario) → AreAlike t s → Cause t c → (run.status ≡ answer) ⊎ IsOutside run.status) → ExactlyFor run Cause answer
+cause_of run c s Cause answer h is comes = exactly_for run c Cause answer h.for (λ bytes told. record {
+  only = λ e. (s, accepts run c s bytes h told, is (subst (Tells s c run.before run.after) e h.tells));
+  comes = λ (t, accepting, cause). comes t (accepted_alike run c s t h accepting) cause;
+})
+
+-- a run that ends empty ends at one of its steps
+follow_within : (course : Course) (count : ℕ → ℕ) (Hits : ℕ → ℕ → Pt → Type 0) (n i j : ℕ) (sets : List SetValue) (later : List (List SetValue)) → Follow course count Hits n i sets later (end.Empty j) → i ≤ n → j ≤ n
+follow_within course count Hits n i j [] later f h = let same : end.Empty j ≡ end.Empty i = f.1 in let at : j ≡ i = cc in omega (arith, at, h)
+follow_within course count Hits n i j (b ∷ sets) [] f h = let goes : end.Empty j ≡ end.Open = f.1 in cc
+follow_within course count Hits n i j (b ∷ sets) (next ∷ later) f h = let less = f.0 in follow_within course count Hits n (suc i) j next later f.2 (omega (arith, less))
+
+lists_within : (course : Course) (count : ℕ → ℕ) (Hits : ℕ → ℕ → Pt → Type 0) (n j : ℕ) (lists : List (List SetValue)) → AreStepLists course count Hits n lists (end.Empty j) → j ≤ n
+lists_within course count Hits n j [] are = absurd are
+lists_within course count Hits n j (sets ∷ later) are = follow_within course count Hits n 0 j sets later are.1 (omega arith)
+
+area_within : (s : Scenario) (c : Command) (text : List ℕ) (ends : End) (i : ℕ) → IsOutputOf Area s c text ends → Empty i ≡ status_of Area ends → i ≤ c.steps
+area_within s c text end.Done i output e = cc
+area_within s c text end.Open i output e = cc
+area_within s c text (end.Empty j) i output e =
+    let at : i ≡ j = cc in
+    let run = output.report.run in
+    subst (λ (k : ℕ). k ≤ c.steps) (sym at) (lists_within (course_of s c output.report.problem) (λ k. length (output.report.pieces k)) (λ k. Hits (output.report.pieces k)) c.steps j output.report.lists run.lists_are)
+
+empty_known : (task : Task) (s : Scenario) (c : Command) (text : List ℕ) (ends : End) (i : ℕ) → IsBuilt task → IsOutputOf task s c text ends → Empty i ≡ status_of task ends → EndsEmpty task × (i ≤ c.steps)
+empty_known Predict s c text end.Done i built output e = cc
+empty_known Predict s c text end.Open i built output e = let done : end.Open ≡ end.Done = output.1 in cc
+empty_known Predict s c text (end.Empty j) i built output e = let done : end.Empty j ≡ end.Done = output.1 in cc
+empty_known Area s c text ends i built output e = (tt, area_within s c text ends i output e)
+empty_known task s c text ends i built output e = absurd built
+
+tells_known : (run : Run) (s : Scenario) (c : Command) (before after : Option (List ℕ)) (status : Status) → IsForCommand run c → Tells s c before after status → IsKnownAs status run
+tells_known run s c before after Open for h = tt
+tells_known run s c before after WriteFault for h = tt
+tells_known run s c before after Memory for h = tt
+tells_known run s c before after (Empty i) for h =
+    let whole = h.whole tt in
+    let both = empty_known c.task s c h.front whole.ends i for.built whole.output whole.status_is in
+    (each_for EndsEmpty run c for both.0, λ d stands. subst (λ (x : Command). i ≤ x.steps) (sym (for.only d stands)) both.1)
+tells_known run s c before after (Refused NoProblem place) for h = (h.0, each_for FindsArea run c for h.1.finds)
+tells_known run s c before after (Refused LateProblem place) for h = each_for FindsArea run c for h.finds
+tells_known run s c before after (Refused EgoTooFast place) for h = each_for FindsArea run c for h.finds
+tells_known run s c before after (Limit TooManyCells step count) for h = (h.0, each_for PredictsTraffic run c for h.1.predicts)
+tells_known run s c before after (Limit LaneTooWide step id) for h = (h.0, each_for PredictsTraffic run c for h.1.predicts)
+tells_known run s c before after (Limit TooManyLanePolygons step count) for h = (h.0, each_for PredictsTraffic run c for h.1.predicts)
+tells_known run s c before after (Limit AreaTooWide step count) for h = each_for FindsArea run c for h.0.passing.finds
+tells_known run s c before after (Limit TooManyBoxes step count) for h = each_for FindsArea run c for h.passing.finds
+tells_known run s c before after status for h = absurd h
 
 loaded_holds : (run : Run) (c : Command) (s : Scenario) → HasLoaded run c s → AllHold run
 loaded_holds run c s h = record {
@@ -384,47 +446,52 @@ loaded_holds run c s h = record {
     whole = λ bytes told for later. (h.told bytes told).0.1;
     limit = λ bytes step count told e. absurd (not (Limit TooLong step count) (λ w. w) e);
   };
-  known = written_known run s c.steps run.before run.after run.status h.written (each_for PredictsTraffic run c h.for (predicts c h.for.task));
+  known = tells_known run s c run.before run.after run.status h.for h.tells;
   bad_words = record { only = λ e. absurd (not BadWords (λ w. w) e); comes = λ none. absurd (none c h.for.stands) };
   not_yet = record {
     only = λ e. absurd (not (Refused NotYet 0) (λ w. w) e);
     never = λ d stands whole e. not (Refused NotYet 0) (λ w. w) e;
-    comes = λ (d, stands, unbuilt). absurd (unbuilt (subst (λ (x : Command). IsBuilt x.task) (sym (h.for.only d stands)) (is_built c h.for.task)));
+    comes = λ (d, stands, unbuilt). absurd (unbuilt (subst (λ (x : Command). IsBuilt x.task) (sym (h.for.only d stands)) h.for.built));
     scenario = λ d stands built told. never (not (Refused NotYet 0) (λ w. w)) (λ (t, accepting, cause). cause.left_out tt);
   };
   read_fault = λ e. absurd (not ReadFault (λ w. w) e);
   too_long = λ bytes told. never (not (Limit TooLong 0 67108865) (λ w. w)) (λ cause. too_many bytes (h.told bytes told).0.0 cause.1);
   not_json = λ bytes told. never (not (Refused NotJson 0) (λ w. w)) (λ cause. let (tree, tree_is, scenario) = (h.told bytes told).1 in tree_is_json bytes tree tree_is cause.1);
   not_tree = λ bytes place told. never (not (Refused NotTree place) (λ w. w)) (λ cause. let (tree, tree_is, scenario) = (h.told bytes told).1 in tree_has_no_fault bytes tree place tree_is cause.1);
-  refused = λ bytes code place told of. never (not (Refused code place) (λ w. w)) (λ cause. not_refused bytes s code place (h.told bytes told).1 cause.1);
-  no_problem = not_of_prediction run c s HasNoProblem (Refused NoProblem 0) h (λ w. w) (λ t cause. finds_none c h.for.task cause.finds);
-  late_problem = λ place. not_of_prediction run c s (HasLateProblem place) (Refused LateProblem place) h (λ w. w) (λ t cause. finds_none c h.for.task cause.finds);
-  ego_too_fast = λ place. not_of_prediction run c s (HasFastProblem place) (Refused EgoTooFast place) h (λ w. w) (λ t cause. finds_none c h.for.task cause.finds);
-  too_many_cells = too_many_cells run c s h;
-  lane_too_wide = lane_too_wide run c s h;
-  too_many_lane_polygons = too_many_lane_polygons run c s h;
-  area_too_wide = λ step count. not_of_prediction run c s (HasWideArea step count) (Limit AreaTooWide step count) h (λ w. w) (λ t cause. finds_none c h.for.task cause.passing.finds);
-  too_many_boxes = λ step count. not_of_prediction run c s (HasManyBoxes step count) (Limit TooManyBoxes step count) h (λ w. w) (λ t cause. finds_none c h.for.task cause.passing.finds);
+  refused = λ bytes code place told of. never (not (Refused code place) (no_check code place of)) (λ cause. not_refused bytes s code place (h.told bytes told).1 cause.1);
+  no_problem = cause_of run c s HasNoProblem (Refused NoProblem 0) h (λ y. y.1) (λ t same x. no_problem_comes s c h.for.built run.before run.after run.status (no_problem_carried s t c same x) h.tells);
+  late_problem = λ place. cause_of run c s (HasLateProblem place) (Refused LateProblem place) h (λ y. y) (λ t same x. late_comes s c h.for.built run.before run.after run.status place (late_carried s t c same place x) h.tells);
+  ego_too_fast = λ place. cause_of run c s (HasFastProblem place) (Refused EgoTooFast place) h (λ y. y) (λ t same x. fast_comes s c h.for.built run.before run.after run.status place (fast_carried s t c same place x) h.tells);
+  too_many_cells = λ count. cause_of run c s (HasManyCells count) (Limit TooManyCells 0 count) h (λ y. y.1) (λ t same x. cells_comes s c h.for.built run.before run.after run.status count (cells_carried s t c same count x) h.tells);
+  lane_too_wide = λ id. cause_of run c s (HasWideLane id) (Limit LaneTooWide 0 id) h (λ y. y.1) (λ t same x. wide_comes s c h.for.built run.before run.after run.status id (wide_carried s t c same id x) h.tells);
+  too_many_lane_polygons = λ count. cause_of run c s (HasManyPairs count) (Limit TooManyLanePolygons 0 count) h (λ y. y.1) (λ t same x. pairs_comes s c h.for.built run.before run.after run.status count (many_pairs_carried s t c same count x) h.tells);
+  area_too_wide = λ step count. cause_of run c s (HasWideArea step count) (Limit AreaTooWide step count) h (λ y. y.0) (λ t same x. wide_area_comes s c h.for.built run.before run.after run.status step count (wide_area_carried s t c same step count x) h.tells);
+  too_many_boxes = λ step count. cause_of run c s (HasManyBoxes step count) (Limit TooManyBoxes step count) h (λ y. y) (λ t same x. boxes_comes s c h.for.built run.before run.after run.status step count (boxes_carried s t c same step count h.for.built x) h.tells);
   write_fault = h.cause;
-  complete = complete_for run c h.for (λ bytes tree told few tree_is is passes none.
-      written_done run s c run.status h.cause h.written ((passes s (h.told bytes told).1).within.traffic (predicts c h.for.task)) none);
+  complete = complete_for run c h.for (λ bytes tree told few tree_is is passes none. elim (passes_done s c h.for.built run.before run.after run.status (passes s (h.told bytes told).1) h.tells) [
+    | inl (inl done) ↦ inl done
+    | inl (inr fault) ↦ absurd (none (inr (h.cause fault)))
+    | inr memory ↦ inr memory
+  ]);
 }
   where
-    not : (answer : Status) → (WritesPrediction s c.steps run.before run.after answer → ⊥) → run.status ≡ answer → ⊥
-    not answer other e = other (subst (WritesPrediction s c.steps run.before run.after) e h.written)
+    not : (answer : Status) → (Tells s c run.before run.after answer → ⊥) → run.status ≡ answer → ⊥
+    not answer other e = other (subst (Tells s c run.before run.after) e h.tells)
+
+    no_check : (code : Code) (place : ℕ) → IsOfCheck code → Tells s c run.before run.after (Refused code place) → ⊥
+    no_check NoProblem place of w = of
+    no_check LateProblem place of w = of
+    no_check EgoTooFast place of w = of
+    no_check code place of w = w
 
 -- ---- by what loading and writing say
 
-pub loaded : (run : Run) (c : Command) (s : Scenario) → IsForPrediction run c → ((bytes : List ℕ) → run.told ≡ Some bytes → IsReadWhole bytes run.left × IsScenarioOf bytes s) → IsInRange s → HaveUniqueIds s → AreBuildable s.lanelets.entries
-    → WritesPrediction s c.steps run.before run.after run.status → (run.status ≡ WriteFault → WriteFails run) → AllHold run
-loaded run c s for told range ids lanes written cause = loaded_holds run c s (record { for = for; told = told; range = range; ids = ids; lanes = lanes; written = written; cause = cause })
+pub loaded : (run : Run) (c : Command) (s : Scenario) → IsForCommand run c → ((bytes : List ℕ) → run.told ≡ Some bytes → IsReadWhole bytes run.left × IsScenarioOf bytes s)
+    → Tells s c run.before run.after run.status → (run.status ≡ WriteFault → WriteFails run) → AllHold run
+loaded run c s for told tells cause = loaded_holds run c s (record { for = for; told = told; tells = tells; cause = cause })
 
-pub failed : (run : Run) (c : Command) → IsForPrediction run c → ((bytes : List ℕ) → run.told ≡ Some bytes → Loads bytes run.left (Err run.status)) → IsLoadFault run.status → (run.status ≡ ReadFault → ReadFails run) → AllHold run
+pub failed : (run : Run) (c : Command) → IsForCommand run c → ((bytes : List ℕ) → run.told ≡ Some bytes → Loads bytes run.left (Err run.status)) → IsLoadFault run.status → (run.status ≡ ReadFault → ReadFails run) → AllHold run
 failed run c for told fault read = fault_holds run c (record { for = for; told = told; fault = fault; read = read })
 
-unbuilt_task : (task : Task) → (task ≡ Predict → ⊥) → IsBuilt task → ⊥
-unbuilt_task Predict not built = not refl
-unbuilt_task task not built = built
-
-pub not_built : (run : Run) (o : Option Command) (c : Command) → run.status ≡ Refused NotYet 0 → o ≡ Some c → IfSome o (λ d. run.Stands d) → IfSome o (λ c. (d : Command) → run.Stands d → d ≡ c) → (c.task ≡ Predict → ⊥) → AllHold run
-not_built run o c e read stands only not = not_built_holds run c e (read_some run.Stands o c read stands) (read_some (λ (x : Command). (d : Command) → run.Stands d → d ≡ x) o c read only) (unbuilt_task c.task not)
+pub not_built : (run : Run) (o : Option Command) (c : Command) → run.status ≡ Refused NotYet 0 → o ≡ Some c → IfSome o (λ d. run.Stands d) → IfSome o (λ c. (d : Command) → run.Stands d → d ≡ c) → (IsBuilt c.task → ⊥) → AllHold run
+not_built run o c e read stands only not = not_built_holds run c e (read_some run.Stands o c read stands) (read_some (λ (x : Command). (d : Command) → run.Stands d → d ≡ x) o c read only) not

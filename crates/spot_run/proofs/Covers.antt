@@ -1,4 +1,4 @@
--- The lines of a prediction cover each admissible motion of each participant.
+-- The lines of a report with traffic cover each admissible motion of each participant.
 use Rattle.std.proofs.Common.{◌≡◌, ◌∙◌, Some, inl, inr, ℕ, zero, suc, add-zero, zero-add, ◌+◌, ◌==◌, ◌<◌, ◌^◌, true, false, cond, List, [], ◌∷◌, ◌++◌, map, refl, sym, ap, subst, arith, ℤ}
 use Rattle.std.specs.List.{flat_map}
 use Rattle.std.specs.Prelude.{slice_get}
@@ -13,6 +13,7 @@ use Rattle.spot_terms.specs.Ranges.{IsInRange, IsMoverInRange, IsFixedInRange}
 use Rattle.spot_terms.specs.Reach.{interval_numbers, disc_numbers}
 use Rattle.spot_terms.specs.Report.{Line, mover_line, late_line, fixed_line, lane_line, occ_line}
 use Rattle.spot_terms.specs.Participants.{starting}
+use Rattle.spot_terms.specs.declared.lines.Mode.{Mode}
 use Rattle.spot_terms.specs.declared.plain.Pt.{Pt}
 use Rattle.spot_terms.specs.declared.command.Command.{Command}
 use Rattle.spot_terms.specs.declared.scenario.Mover.{Mover}
@@ -29,8 +30,8 @@ use Rattle.spot_claims.specs.ParticipantClaims.{pt, IsMoverLine, IsAdmissible, I
 use Rattle.participants.specs.declared.participant.Participant.{Participant}
 use Rattle.participants.specs.Predictions.{IsParticipant, HoldsMotions, IsFixedOctagon, Occupancies, IsPrediction}
 use Rattle.spot_run.specs.Writes.{IsPredicted}
-use Rattle.spot_run.specs.Lines.{line_of, obstacle_lines, octagon_line, octagon_lines, occupancy_lines, polygon_line, lane_lines, traffic_lines, prediction_lines}
-use Rattle.spot_run.proofs.Alone.{mover_alone, octagon_alone, fixed_alone}
+use Rattle.spot_run.specs.Lines.{line_of, obstacle_lines, octagon_line, octagon_lines, occupancy_lines, polygon_line, lane_lines, traffic_lines, report_lines}
+use Rattle.spot_run.proofs.Alone.{AreOthers, mover_alone, octagon_alone, fixed_alone}
 use Rattle.spot_terms.proofs.Orders.{zero_true}
 
 -- ---- where lines stand
@@ -65,25 +66,25 @@ octagon_listed id from (suc count) (suc i) f (o ∷ os) e h =
     let same : from + 1 + i ≡ from + suc i = omega arith in
     inr (rw same at (octagon_listed id (from + 1) count i f os rest (omega (arith, h))))
 
-in_front : (k steps : ℕ) (ms : List Mover) (o : Occupancies) (l : Line) → Includes (traffic_lines ms o) l → Includes (prediction_lines k steps ms o) l
-in_front k steps ms o l i = inr (inr (includes_front (traffic_lines ms o) _ l i))
+in_front : (mode : Mode) (k steps : ℕ) (ms : List Mover) (o : Occupancies) (more : List Line) (l : Line) → Includes (traffic_lines ms o) l → Includes (report_lines mode k steps ms o more) l
+in_front mode k steps ms o more l i = inr (inr (includes_front (traffic_lines ms o) more l i))
 
--- each part of the traffic is among the lines of a prediction
-module _ (k steps : ℕ) (ms : List Mover) (o : Occupancies) (l : Line) where
-  obstacle_stands : Includes (obstacle_lines ms o.participants) l → Includes (prediction_lines k steps ms o) l
-  obstacle_stands i = in_front k steps ms o l (includes_front (obstacle_lines ms o.participants ++ map octagon_line o.fixed ++ flat_map lane_lines o.participants) (flat_map occupancy_lines o.participants) l
+-- each part of the traffic is among the lines of a report
+module _ (mode : Mode) (k steps : ℕ) (ms : List Mover) (o : Occupancies) (more : List Line) (l : Line) where
+  obstacle_stands : Includes (obstacle_lines ms o.participants) l → Includes (report_lines mode k steps ms o more) l
+  obstacle_stands i = in_front mode k steps ms o more l (includes_front (obstacle_lines ms o.participants ++ map octagon_line o.fixed ++ flat_map lane_lines o.participants) (flat_map occupancy_lines o.participants) l
       (includes_front (obstacle_lines ms o.participants ++ map octagon_line o.fixed) (flat_map lane_lines o.participants) l (includes_front (obstacle_lines ms o.participants) (map octagon_line o.fixed) l i)))
 
-  octagon_stands : Includes (map octagon_line o.fixed) l → Includes (prediction_lines k steps ms o) l
-  octagon_stands i = in_front k steps ms o l (includes_front (obstacle_lines ms o.participants ++ map octagon_line o.fixed ++ flat_map lane_lines o.participants) (flat_map occupancy_lines o.participants) l
+  octagon_stands : Includes (map octagon_line o.fixed) l → Includes (report_lines mode k steps ms o more) l
+  octagon_stands i = in_front mode k steps ms o more l (includes_front (obstacle_lines ms o.participants ++ map octagon_line o.fixed ++ flat_map lane_lines o.participants) (flat_map occupancy_lines o.participants) l
       (includes_front (obstacle_lines ms o.participants ++ map octagon_line o.fixed) (flat_map lane_lines o.participants) l (includes_back (obstacle_lines ms o.participants) (map octagon_line o.fixed) l i)))
 
-  polygon_stands : Includes (flat_map lane_lines o.participants) l → Includes (prediction_lines k steps ms o) l
-  polygon_stands i = in_front k steps ms o l (includes_front (obstacle_lines ms o.participants ++ map octagon_line o.fixed ++ flat_map lane_lines o.participants) (flat_map occupancy_lines o.participants) l
+  polygon_stands : Includes (flat_map lane_lines o.participants) l → Includes (report_lines mode k steps ms o more) l
+  polygon_stands i = in_front mode k steps ms o more l (includes_front (obstacle_lines ms o.participants ++ map octagon_line o.fixed ++ flat_map lane_lines o.participants) (flat_map occupancy_lines o.participants) l
       (includes_back (obstacle_lines ms o.participants ++ map octagon_line o.fixed) (flat_map lane_lines o.participants) l i))
 
-  occupancy_stands : Includes (flat_map occupancy_lines o.participants) l → Includes (prediction_lines k steps ms o) l
-  occupancy_stands i = in_front k steps ms o l (includes_back (obstacle_lines ms o.participants ++ map octagon_line o.fixed ++ flat_map lane_lines o.participants) (flat_map occupancy_lines o.participants) l i)
+  occupancy_stands : Includes (flat_map occupancy_lines o.participants) l → Includes (report_lines mode k steps ms o more) l
+  occupancy_stands i = in_front mode k steps ms o more l (includes_back (obstacle_lines ms o.participants ++ map octagon_line o.fixed ++ flat_map lane_lines o.participants) (flat_map occupancy_lines o.participants) l i)
 
 -- ---- the claim
 
@@ -105,54 +106,54 @@ is_mover_line lanes k steps m p range is = record {
 }
 
 -- a participant that follows lanes is in a lane polygon that is printed for it
-in_lane : (s : Scenario) (c : Command) (o : Occupancies) (m : Mover) (p : Participant) → IsParticipant s.lanelets.entries s.step c.steps m p → Includes o.participants p → HoldsMotions s.lanelets.entries s.step c.steps p
+in_lane : (mode : Mode) (more : List Line) (s : Scenario) (c : Command) (o : Occupancies) (m : Mover) (p : Participant) → IsParticipant s.lanelets.entries s.step c.steps m p → Includes o.participants p → HoldsMotions s.lanelets.entries s.step c.steps p
     → (states : List State) → IsAdmissible s m (line_of p) states → (t : ℕ) (state : State) → slice_get states t ≡ Some state → (interval : ℕ) → HoldsTick s.step c.steps interval t → (q : Pt) → InDisc p.start.r state.p q
-    → p.lane ≡ true → InPrintedLane (prediction_lines s.step c.steps s.movers o) p.id interval q
-in_lane s c o m p is i motions states admissible t state at interval holds q disc lane =
+    → p.lane ≡ true → InPrintedLane (report_lines mode s.step c.steps s.movers o more) p.id interval q
+in_lane mode more s c o m p is i motions states admissible t state at interval holds q disc lane =
     let (x, listed, early, inside) = motions lane states t interval state q (admissible.1 (is.lane.0 lane)) at holds.high holds.printed disc in
     let (y, j, same) = in_map polygon_of p.polys x listed in record {
       cell = x.cell;
       first = x.first;
       corners = x.corners;
-      printed = polygon_stands s.step c.steps s.movers o _
+      printed = polygon_stands mode s.step c.steps s.movers o more _
           (includes_flat_map lane_lines o.participants p _ i (subst (λ (z : LanePolygon). Includes (lane_lines p) (lane_line p.id z.cell z.first z.corners)) (sym same) (includes_map (polygon_line p.id) p.polys y j)));
       early = early;
       inside = inside;
     }
 
-covered : (s : Scenario) (c : Command) (o : Occupancies) (m : Mover) (p : Participant) (interval : ℕ) → IsPrediction s c.steps o → HaveUniqueIds s → IsParticipant s.lanelets.entries s.step c.steps m p → Includes o.participants p → HoldsMotions s.lanelets.entries s.step c.steps p
-    → interval < c.steps → IsCovered s c (prediction_lines s.step c.steps s.movers o) m (line_of p) interval
-covered s c o m p interval whole ids is i motions less = record {
+covered : (mode : Mode) (more : List Line) (others : AreOthers more) (s : Scenario) (c : Command) (o : Occupancies) (m : Mover) (p : Participant) (interval : ℕ) → IsPrediction s c.steps o → HaveUniqueIds s → IsParticipant s.lanelets.entries s.step c.steps m p → Includes o.participants p → HoldsMotions s.lanelets.entries s.step c.steps p
+    → interval < c.steps → IsCovered s c (report_lines mode s.step c.steps s.movers o more) m (line_of p) interval
+covered mode more others s c o m p interval whole ids is i motions less = record {
   numbers = interval_numbers p.start s.step interval;
   printed = record {
-    listed = occupancy_stands s.step c.steps s.movers o _
+    listed = occupancy_stands mode s.step c.steps s.movers o more _
         (includes_flat_map occupancy_lines o.participants p _ i (rw zero-add at (octagon_listed p.id 0 c.steps interval (interval_numbers p.start s.step) p.octs (is.octagons ∙ ap (map (interval_numbers p.start s.step)) (below-from c.steps)) less)));
-    alone = λ others listed. octagon_alone s c.steps o whole ids m p interval others is i listed;
+    alone = λ numbers listed. octagon_alone mode more others s c.steps o whole ids m p interval numbers is i listed;
   };
   holds = λ states admissible t state at holds q disc. record {
     octagon = holds_bodies p.start s.step interval is.range states t state q admissible.0 at holds.low holds.high disc;
-    lane = in_lane s c o m p is i motions states admissible t state at interval holds q disc;
+    lane = in_lane mode more s c o m p is i motions states admissible t state at interval holds q disc;
   };
 }
 
--- the lines of a prediction claim what they should
-pub prediction_covers : (s : Scenario) (c : Command) (o : Occupancies) → IsInRange s → HaveUniqueIds s → IsPredicted s c.steps o → CoversParticipants s c (prediction_lines s.step c.steps s.movers o)
-prediction_covers s c o range ids predicted =
+-- the lines of a report with traffic claim of it what they should
+pub traffic_covers : (mode : Mode) (more : List Line) (others : AreOthers more) (s : Scenario) (c : Command) (o : Occupancies) → IsInRange s → HaveUniqueIds s → IsPredicted s c.steps o → CoversParticipants s c (report_lines mode s.step c.steps s.movers o more)
+traffic_covers mode more others s c o range ids predicted =
     let lanes = s.lanelets.entries in
     let is = predicted.is in record {
       movers = λ m i zero.
           let (p, j, one) = partner (IsParticipant lanes s.step c.steps) (starting s.movers) o.participants m is.participants (includes_filter (λ (x : Mover). x.time == 0) s.movers m (zero_true m.time zero) i) in record {
             line = line_of p;
-            printed = obstacle_stands s.step c.steps s.movers o _ (mover_listed lanes s.step c.steps s.movers o.participants p is.participants j);
-            alone = λ other listed same. mover_alone s c.steps o is ids p other j listed same;
+            printed = obstacle_stands mode s.step c.steps s.movers o more _ (mover_listed lanes s.step c.steps s.movers o.participants p is.participants j);
+            alone = λ other listed same. mover_alone mode more others s c.steps o is ids p other j listed same;
             line_is = is_mover_line lanes s.step c.steps m p (all_included IsMoverInRange s.movers m range.movers i) one;
-            covered = λ interval less. covered s c o m p interval is ids one j (all_included (HoldsMotions lanes s.step c.steps) o.participants p predicted.holds j) less;
+            covered = λ interval less. covered mode more others s c o m p interval is ids one j (all_included (HoldsMotions lanes s.step c.steps) o.participants p predicted.holds j) less;
           };
       fixed = λ f i.
           let (n, j, one) = partner IsFixedOctagon s.fixed o.fixed f is.fixed i in record {
             numbers = disc_numbers (pt f.x f.y) f.enclosing;
-            printed = octagon_stands s.step c.steps s.movers o _ (subst (Includes (map octagon_line o.fixed)) (octagon_is f n one) (includes_map octagon_line o.fixed n j));
-            alone = λ others listed. fixed_alone s c.steps o is ids f others i listed;
+            printed = octagon_stands mode s.step c.steps s.movers o more _ (subst (Includes (map octagon_line o.fixed)) (octagon_is f n one) (includes_map octagon_line o.fixed n j));
+            alone = λ numbers listed. fixed_alone mode more others s c.steps o is ids f numbers i listed;
             holds = λ q disc. disc_in_octagon (pt f.x f.y) q f.enclosing (small f (all_included IsFixedInRange s.fixed f range.fixed i)) disc;
           };
     }

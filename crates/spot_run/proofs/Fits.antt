@@ -7,12 +7,13 @@ use Rattle.spot_terms.specs.Lists.{Pairwise, numbers_from}
 use Rattle.spot_terms.specs.Whole.{SizeAtMost}
 use Rattle.spot_terms.specs.Ranges.{IsInRange, IsMoverInRange, IsFixedInRange, IsStart}
 use Rattle.spot_terms.specs.Reach.{normals, along, disc_number, interval_numbers, disc_numbers}
-use Rattle.spot_terms.specs.Report.{FitsLine, FitsPt, FitsCorners, FitsNumbers, IsReport, mover_line, late_line}
+use Rattle.spot_terms.specs.Report.{Line, FitsLine, FitsPt, FitsCorners, FitsNumbers, IsReport, mover_line, late_line}
 use Rattle.spot_terms.specs.Cells.{Lane, cells}
 use Rattle.spot_terms.specs.LanePolygons.{LanePolygon, reach_of, IsFirst, IsReachedIn, AreLanePolygons}
 use Rattle.spot_terms.specs.Limits.{HasNetwork}
 use Rattle.spot_terms.specs.Participants.{starting}
 use Rattle.spot_terms.specs.Routes.{IsRoute}
+use Rattle.spot_terms.specs.declared.lines.Mode.{Mode}
 use Rattle.spot_terms.specs.declared.plain.Pt.{Pt}
 use Rattle.spot_terms.specs.declared.plain.AccStart.{AccStart}
 use Rattle.spot_terms.specs.declared.scenario.Mover.{Mover}
@@ -32,7 +33,7 @@ use Rattle.lane_occupancy.specs.declared.polygons.LanePoly.{LanePoly}
 use Rattle.participants.specs.declared.participant.Participant.{Participant}
 use Rattle.participants.specs.Predictions.{IsParticipant, IsFixedOctagon, Occupancies}
 use Rattle.spot_run.specs.Writes.{IsPredicted}
-use Rattle.spot_run.specs.Lines.{line_of, obstacle_lines, octagon_line, polygon_line, lane_lines, octagon_lines, occupancy_lines, traffic_lines, prediction_lines}
+use Rattle.spot_run.specs.Lines.{line_of, obstacle_lines, octagon_line, polygon_line, lane_lines, octagon_lines, occupancy_lines, traffic_lines, report_lines}
 use Rattle.spot_run.proofs.CellSizes.{IsSmall, body_small}
 use Rattle.spot_terms.proofs.Unique.{least_one}
 use Rattle.spot_terms.proofs.ItemPlaces.{got_below}
@@ -189,9 +190,9 @@ starting_in_range (m ∷ ms) range =
     let rest : AllByRecursion IsMoverInRange (starting ms) = starting_in_range ms range.1 in
     elim (m.time == 0) as (λ t. AllByRecursion IsMoverInRange (cond t (m ∷ starting ms) (starting ms))) [ true ↦ (range.0, rest) | false ↦ rest ]
 
--- the report of a prediction is one whose text tells it
-pub fits_report : (s : Scenario) (steps : ℕ) (o : Occupancies) → IsInRange s → AreBuildable s.lanelets.entries → steps ≤ 100 → IsPredicted s steps o → IsReport (prediction_lines s.step steps s.movers o)
-fits_report s steps o range buildable few predicted =
+-- a report with traffic is one whose text tells it, where what follows is
+pub fits_report : (mode : Mode) (s : Scenario) (steps : ℕ) (o : Occupancies) (more : List Line) → IsInRange s → AreBuildable s.lanelets.entries → steps ≤ 100 → IsPredicted s steps o → IsReport more → IsReport (report_lines mode s.step steps s.movers o more)
+fits_report mode s steps o more range buildable few predicted fits =
     let lanes = s.lanelets.entries in
     let is = predicted.is in
     let low = range.step_low in
@@ -200,7 +201,7 @@ fits_report s steps o range buildable few predicted =
       tt,
       (
         (omega (arith, high), omega (arith, few)),
-        all_append FitsLine (traffic_lines s.movers o) (_ ∷ [])
+        all_append FitsLine (traffic_lines s.movers o) more
             (all_append FitsLine (obstacle_lines s.movers o.participants ++ map octagon_line o.fixed ++ flat_map lane_lines o.participants) (flat_map occupancy_lines o.participants)
             (all_append FitsLine (obstacle_lines s.movers o.participants ++ map octagon_line o.fixed) (flat_map lane_lines o.participants)
             (all_append FitsLine (obstacle_lines s.movers o.participants) (map octagon_line o.fixed)
@@ -208,6 +209,6 @@ fits_report s steps o range buildable few predicted =
             (fits_fixed s.fixed o.fixed range.fixed is.fixed))
             (fits_lanes lanes s.step steps (starting s.movers) o.participants buildable predicted.network few starts is.participants))
             (fits_occupancies lanes s.step steps (starting s.movers) o.participants high few starts is.participants))
-            (tt, tt),
+            fits,
       ),
     )

@@ -1,7 +1,6 @@
 pub mod CellSizes
 pub mod Alone
 pub mod Covers
-pub mod Writing
 pub mod Obstacles
 pub mod Reports
 pub mod Fits
@@ -10,3 +9,4 @@ pub mod Runs
 pub mod Limits
 pub mod Causes
 pub mod Refusals
+pub mod Predictions

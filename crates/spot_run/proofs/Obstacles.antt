@@ -8,7 +8,7 @@ use Rattle.spot_terms.specs.declared.lines.MoverLine.{MoverLine}
 use Rattle.spot_terms.specs.declared.scenario.Mover.{Mover}
 use Rattle.participants.specs.declared.participant.Participant.{Participant}
 use Rattle.spot_run.specs.Lines.{line_of, obstacle_lines}
-use Rattle.spot_run.proofs.Writing.{report_text-cons, report_text-nil, item}
+use Rattle.text_report.proofs.ReportLines.{report_text-cons, report_text-nil, item}
 use Rattle.spot_terms.proofs.Orders.{zero_true, not_zero_false}
 
 mover_next : (m : Mover) (ms : List Mover) (p : Participant) (ps : List Participant) → m.time ≡ 0 → report_text (obstacle_lines (m ∷ ms) (p ∷ ps)) ≡ line_text (mover_line (line_of p)) ++ report_text (obstacle_lines ms ps)

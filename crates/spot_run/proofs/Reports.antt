@@ -17,7 +17,7 @@ use Rattle.spot_terms.proofs.ListLemmas.{pairwise_map, below-from}
 use Rattle.convex_poly.specs.declared.oct_numbers.OctNumbers.{OctNumbers}
 use Rattle.lane_occupancy.specs.Polygons.{polygon_of}
 use Rattle.lane_occupancy.specs.declared.polygons.LanePoly.{LanePoly}
-use Rattle.spot_claims.specs.ReportOf.{IsExactMover, IsObstacleLine, fixed_of, movers_in, ArePolygonsOf, polygon_line as line_of_polygon, polygon_lines, occ_lines, IsPredictReport}
+use Rattle.spot_claims.specs.ReportOf.{IsExactMover, IsObstacleLine, fixed_of, movers_in, ArePolygonsOf, polygon_line as line_of_polygon, polygon_lines, occ_lines, IsTraffic, IsPredictReport}
 use Rattle.participants.specs.declared.participant.Participant.{Participant}
 use Rattle.participants.specs.Predictions.{IsParticipant, IsFixedOctagon, Occupancies, IsPrediction}
 use Rattle.spot_run.specs.Lines.{line_of, obstacle_lines, octagon_line, polygon_line, lane_lines, octagon_lines, occupancy_lines, traffic_lines, prediction_lines}
@@ -120,19 +120,15 @@ all_occupancies s c (m ∷ ms) (p ∷ ps) pairs = ap₂ (λ (a b : List Line). a
 fixed_is : (f : Fixed) (o : ℕ × OctNumbers) → IsFixedOctagon f o → fixed_of f ≡ octagon_line o
 fixed_is f o h = sym (ap₂ (λ (id : ℕ) (ns : List ℤ). fixed_line id ns) h.0 h.1)
 
-pub predict_report : (s : Scenario) (c : Command) (o : Occupancies) → IsInRange s → IsPrediction s c.steps o → IsPredictReport s c (prediction_lines s.step c.steps s.movers o)
-predict_report s c o range is =
+pub is_traffic : (s : Scenario) (c : Command) (o : Occupancies) → IsInRange s → IsPrediction s c.steps o → IsTraffic s c (traffic_lines s.movers o)
+is_traffic s c o range is =
     let obstacles = obstacle_lines s.movers o.participants in
     let movers : movers_in obstacles ≡ map line_of o.participants = movers_are s s.step c.steps s.movers o.participants is.participants in record {
-      traffic = traffic_lines s.movers o;
-      traffic_is = record {
-        obstacles = obstacles;
-        obstacles_are = obstacles_are s s.step c.steps s.movers o.participants range.movers is.participants;
-        polygons = map polygons_of o.participants;
-        polygons_are = rw movers (polygons_are s c (starting s.movers) o.participants is.participants);
-        lines_are = lines_are movers;
-      };
-      lines_are = refl;
+      obstacles = obstacles;
+      obstacles_are = obstacles_are s s.step c.steps s.movers o.participants range.movers is.participants;
+      polygons = map polygons_of o.participants;
+      polygons_are = rw movers (polygons_are s c (starting s.movers) o.participants is.participants);
+      lines_are = lines_are movers;
     }
   where
     octagons : map octagon_line o.fixed ≡ map fixed_of s.fixed
@@ -143,3 +139,6 @@ predict_report s c o range is =
         ++ flat_map (occ_lines s c) (movers_in (obstacle_lines s.movers o.participants))
     lines_are movers = rw (movers, octagons) (ap₂ (λ (a b : List Line). obstacle_lines s.movers o.participants ++ map fixed_of s.fixed ++ a ++ b) (all_polygons o.participants)
         (all_occupancies s c (starting s.movers) o.participants is.participants))
+
+pub predict_report : (s : Scenario) (c : Command) (o : Occupancies) → IsInRange s → IsPrediction s c.steps o → IsPredictReport s c (prediction_lines s.step c.steps s.movers o)
+predict_report s c o range is = record { traffic = traffic_lines s.movers o; traffic_is = is_traffic s c o range is; lines_are = refl }

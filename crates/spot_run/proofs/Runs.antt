@@ -1,104 +1,122 @@
 -- What a run says, from what its parts say.
-use Rattle.std.proofs.Common.{◌≡◌, ◌∙◌, ℕ, ◌≤◌, List, [], ◌∷◌, ◌++◌, length, Option, Some, None, refl, sym, ap, subst, append-nil}
-use Rattle.spot_terms.specs.declared.limits.TheConstants.{MOST_BYTES}
-use Rattle.std.specs.Prelude.{IfSome, IfNone}
+use Rattle.std.proofs.Common.{◌≡◌, ◌∙◌, inl, inr, ℕ, ◌*◌, ◌-◌, ◌≤◌, List, [], ◌∷◌, ◌++◌, length, Option, Some, None, refl, sym, ap, subst}
+use Rattle.std.specs.Prelude.{IfSome, IfNone, slice_get}
 use Rattle.std.specs.Io.KnownBytes.{Appends}
 use Rattle.std.proofs.lemmas.List.{append_cancel_left}
-use Rattle.spot_terms.specs.Ids.{HaveUniqueIds}
 use Rattle.spot_terms.specs.LaneMotions.{IsLaneMotion}
 use Rattle.spot_terms.specs.Lists.{Includes}
 use Rattle.spot_terms.specs.Motions.{State}
 use Rattle.spot_terms.specs.Participants.{FollowsLanes}
-use Rattle.spot_terms.specs.Ranges.{IsCommandInRange, IsInRange}
-use Rattle.spot_terms.specs.Report.{Line, head_line, time_line, last_line, report_text, IsReport}
+use Rattle.spot_terms.specs.Ranges.{IsCommandInRange}
+use Rattle.spot_terms.specs.Report.{Line, EgoValue, head_line, time_line, report_text, IsReport}
 use Rattle.spot_terms.specs.Statuses.{IsDone}
-use Rattle.spot_terms.specs.Tasks.{ReadsInput, PredictsTraffic, FindsArea}
+use Rattle.spot_terms.specs.Tasks.{ReadsInput, PredictsTraffic}
 use Rattle.spot_terms.specs.declared.command.Command.{Command}
 use Rattle.spot_terms.specs.declared.command.Task.{Task}
-use Rattle.spot_terms.specs.declared.command.Task.TheVariants.{Predict}
-use Rattle.spot_terms.specs.declared.lines.End.TheVariants as end
+use Rattle.spot_terms.specs.declared.command.Task.TheVariants.{Predict, Area}
+use Rattle.spot_terms.specs.declared.limits.TheConstants.{MOST_BYTES}
+use Rattle.spot_terms.specs.declared.lines.Mode.{Mode}
 use Rattle.spot_terms.specs.declared.lines.Mode.TheVariants as mode
 use Rattle.spot_terms.specs.declared.lines.MoverLine.{MoverLine}
+use Rattle.spot_terms.specs.declared.plain.Pt.{Pt}
+use Rattle.spot_terms.specs.declared.scenario.Fixed.{Fixed}
 use Rattle.spot_terms.specs.declared.scenario.Mover.{Mover}
+use Rattle.spot_terms.specs.declared.scenario.Problem.{Problem}
 use Rattle.spot_terms.specs.declared.scenario.Scenario.{Scenario}
 use Rattle.spot_terms.specs.declared.status.Status.{Status}
 use Rattle.spot_terms.specs.declared.status.Status.TheVariants.{Open, Empty, WriteFault}
 use Rattle.spot_terms.proofs.ReportText.{texts_tell}
+use Rattle.spot_terms.proofs.Unique.{some_injective}
 use Rattle.spot_tree.proofs.Readings.{one_tree}
 use Rattle.scenario.proofs.Unique.{scenario_is_one}
-use Rattle.lanelets.specs.Buildable.{AreBuildable}
 use Rattle.spot_claims.specs.Built.{IsBuilt, IsBuiltWhole}
+use Rattle.spot_claims.specs.EgoClaims.{IsEgoLine, IsEgo, InFixed, InParticipant, IsOccupied, HasEntered, IsStruck, IsStruckIn, CoversEgo}
 use Rattle.spot_claims.specs.Headline.{BeginsWith, ClaimsOf, Claims, Reports, Headline}
-use Rattle.spot_claims.specs.Outcomes.{MayBeInput, TakesOutput, WritesOutput}
-use Rattle.spot_claims.specs.Outputs.{IsOutputOf, IsOutput, IsWritten, status_of, Writes}
+use Rattle.spot_claims.specs.Outcomes.{MayBeInput, PassesAll, TakesOutput, WritesOutput}
+use Rattle.spot_claims.specs.Outputs.{IsOutputSoFar, IsWritten, Writes}
 use Rattle.spot_claims.specs.ParticipantClaims.{HoldsTick, IsAdmissible, IsCovered, CoversMover, CoversParticipants}
+use Rattle.spot_claims.specs.Problems.{chosen}
 use Rattle.spot_claims.specs.Runs.{Run, WriteFails}
 use Rattle.spot_claims.specs.Scenario.{IsScenario, IsScenarioOf}
-use Rattle.spot_claims.specs.Stages.{IsInputOf, IsInput, PassesToNetwork, IsWithinTraffic, IsWithinLimits, AreForReading}
-use Rattle.participants.specs.Predictions.{Occupancies}
-use Rattle.spot_run.specs.Lines.{traffic_lines, prediction_lines}
+use Rattle.spot_claims.specs.Stages.{AreForReading, IsInputOf, IsInput}
 use Rattle.spot_run.specs.Loads.{IsReadWhole}
-use Rattle.spot_run.specs.Writes.{report_of, IsPredicted, TakesPrediction, WritesPrediction}
-use Rattle.spot_run.proofs.Covers.{prediction_covers}
-use Rattle.spot_run.proofs.Reports.{predict_report}
-use Rattle.spot_run.proofs.Fits.{fits_report}
-use Rattle.spot_terms.proofs.Unique.{some_injective}
+use Rattle.spot_run.specs.Tells.{TakesFor, HasWritten, Tells}
 
--- ---- words that are for a prediction
+-- ---- words that are for a command that is built
 
--- the words stand for this command and no other, and it is for a prediction
-pub record IsForPrediction (run : Run) (c : Command) : Type 0 where
+-- the words stand for this command and no other, and its task is built
+pub record IsForCommand (run : Run) (c : Command) : Type 0 where
   pub stands : run.Stands c
   pub only : (d : Command) → run.Stands d → d ≡ c
   pub range : IsCommandInRange c
-  pub task : c.task ≡ Predict
+  pub built : IsBuilt c.task
 
 pub read_some : (W : Command → Type 0) (o : Option Command) (c : Command) → o ≡ Some c → IfSome o (λ d. W d) → W c
 read_some W o c e h = subst (λ (x : Option Command). IfSome x (λ d. W d)) e h
 
 -- from what reading the words says
-pub for_prediction : (run : Run) (o : Option Command) (c : Command) → o ≡ Some c → IfSome o (λ d. run.Stands d) → IfSome o (λ c. (d : Command) → run.Stands d → d ≡ c) → IfSome o (λ d. IsCommandInRange d)
-    → c.task ≡ Predict → IsForPrediction run c
-for_prediction run o c e stands only range task = record {
+pub for_command : (run : Run) (o : Option Command) (c : Command) → o ≡ Some c → IfSome o (λ d. run.Stands d) → IfSome o (λ c. (d : Command) → run.Stands d → d ≡ c) → IfSome o (λ d. IsCommandInRange d)
+    → IsBuilt c.task → IsForCommand run c
+for_command run o c e stands only range built = record {
   stands = read_some run.Stands o c e stands;
   only = read_some (λ (x : Command). (d : Command) → run.Stands d → d ≡ x) o c e only;
   range = read_some IsCommandInRange o c e range;
-  task = task;
+  built = built;
 }
 
 pub read_none : (X : Type 0) (o : Option Command) → o ≡ None → IfNone o X → X
 read_none X o e h = subst (λ (x : Option Command). IfNone x X) e h
 
-module _ (c : Command) (task : c.task ≡ Predict) where
+task_reads : (task : Task) → IsBuilt task → ReadsInput task
+task_reads Predict h = tt
+task_reads Area h = tt
+task_reads task h = absurd h
+
+task_whole : (task : Task) → IsBuilt task → IsBuiltWhole task
+task_whole Predict h = tt
+task_whole Area h = absurd h
+task_whole task h = absurd h
+
+task_predicts : (task : Task) → IsBuilt task → PredictsTraffic task
+task_predicts Predict h = tt
+task_predicts Area h = tt
+task_predicts task h = absurd h
+
+task_input : (task : Task) (c : Command) (told : Option (List ℕ)) (bytes : List ℕ) → IsBuilt task → IsInputOf task c told bytes → (told ≡ Some bytes) × (length bytes ≤ MOST_BYTES)
+task_input Predict c told bytes built h = h
+task_input Area c told bytes built h = h
+task_input task c told bytes built h = absurd built
+
+input_task : (task : Task) (c : Command) (told : Option (List ℕ)) (bytes : List ℕ) → IsBuilt task → told ≡ Some bytes → length bytes ≤ MOST_BYTES → IsInputOf task c told bytes
+input_task Predict c told bytes built e few = (e, few)
+input_task Area c told bytes built e few = (e, few)
+input_task task c told bytes built e few = absurd built
+
+may_task : (task : Task) (c : Command) (told : Option (List ℕ)) (bytes : List ℕ) → IsBuilt task → ((all : List ℕ) → told ≡ Some all → bytes ≡ all) → MayBeInput task c told bytes
+may_task Predict c None bytes built same = tt
+may_task Predict c (Some all) bytes built same = same all refl
+may_task Area c None bytes built same = tt
+may_task Area c (Some all) bytes built same = same all refl
+may_task task c told bytes built same = absurd built
+
+module _ (c : Command) (built : IsBuilt c.task) where
   pub reads_input : ReadsInput c.task
-  reads_input = subst ReadsInput (sym task) tt
+  reads_input = task_reads c.task built
 
   pub predicts : PredictsTraffic c.task
-  predicts = subst PredictsTraffic (sym task) tt
-
-  pub finds_none : FindsArea c.task → ⊥
-  finds_none h = subst FindsArea task h
-
-  pub is_built : IsBuilt c.task
-  is_built = subst IsBuilt (sym task) tt
+  predicts = task_predicts c.task built
 
   pub is_built_whole : IsBuiltWhole c.task
-  is_built_whole = subst IsBuiltWhole (sym task) tt
+  is_built_whole = task_whole c.task built
 
   pub input_of : (told : Option (List ℕ)) (bytes : List ℕ) → IsInput c told bytes → (told ≡ Some bytes) × (length bytes ≤ MOST_BYTES)
-  input_of told bytes h = subst (λ (t : Task). IsInputOf t c told bytes) task h
+  input_of told bytes h = task_input c.task c told bytes built h
 
   pub is_input : (told : Option (List ℕ)) (bytes : List ℕ) → told ≡ Some bytes → length bytes ≤ MOST_BYTES → IsInput c told bytes
-  is_input told bytes e few = subst (λ (t : Task). IsInputOf t c told bytes) (sym task) (e, few)
+  is_input told bytes e few = input_task c.task c told bytes built e few
 
-  pub passes : (s : Scenario) → PassesToNetwork s c
-  passes s = record { problem = λ finds. absurd (finds_none finds); built = tt }
-
-  pub within_limits : (s : Scenario) → IsWithinTraffic s c → IsWithinLimits s c
-  within_limits s h = record { traffic = λ _. h; area = λ finds. absurd (finds_none finds) }
-
-pub for_reading : (run : Run) (c : Command) → IsForPrediction run c → AreForReading run
-for_reading run c h = (c, h.stands, is_built c h.task, reads_input c h.task)
+pub for_reading : (run : Run) (c : Command) → IsForCommand run c → AreForReading run
+for_reading run c h = (c, h.stands, h.built, reads_input c h.built)
 
 -- ---- what was appended
 
@@ -121,23 +139,21 @@ pub record AreAlike (s t : Scenario) : Type 0 where
   pub step : s.step ≡ t.step
   pub movers : s.movers ≡ t.movers
   pub fixed : s.fixed ≡ t.fixed
+  pub problems : s.problems ≡ t.problems
   pub lanes : s.lanelets.entries ≡ t.lanelets.entries
 
 pub alike : (bytes : List ℕ) (s t : Scenario) → IsScenarioOf bytes s → IsScenarioOf bytes t → AreAlike s t
 alike bytes s t (tree, tree_is, is) (other, other_is, also) =
     let both = scenario_is_one other s t (subst (λ x. IsScenario x s) (one_tree bytes tree other tree_is other_is) is) also in
-    record { step = both.0; movers = both.1; fixed = both.2; lanes = both.4 }
+    record { step = both.0; movers = both.1; fixed = both.2; problems = both.3; lanes = both.4 }
 
 -- ---- a run that loaded a scenario
 
 -- the scenario that was loaded, and what was written
 pub record HasLoaded (run : Run) (c : Command) (s : Scenario) : Type 0 where
-  pub for : IsForPrediction run c
+  pub for : IsForCommand run c
   pub told : (bytes : List ℕ) → run.told ≡ Some bytes → IsReadWhole bytes run.left × IsScenarioOf bytes s
-  pub range : IsInRange s
-  pub ids : HaveUniqueIds s
-  pub lanes : AreBuildable s.lanelets.entries
-  pub written : WritesPrediction s c.steps run.before run.after run.status
+  pub tells : Tells s c run.before run.after run.status
   pub cause : run.status ≡ WriteFault → WriteFails run
 
 -- ---- the headline
@@ -165,106 +181,126 @@ carried s t c lines same h = record {
   fixed = λ f i. h.fixed f (subst (λ fs. Includes fs f) (sym same.fixed) i);
 }
 
-begins : (s t : Scenario) (c : Command) (o : Occupancies) (lines : List Line) → s.step ≡ t.step → prediction_lines s.step c.steps s.movers o ≡ lines → BeginsWith mode.Predict t c lines
-begins s t c o lines same e = record {
-  rest = traffic_lines s.movers o ++ last_line end.Done ∷ [];
-  lines_are = sym e ∙ ap (λ (k : ℕ). head_line mode.Predict ∷ time_line k c.steps ∷ traffic_lines s.movers o ++ last_line end.Done ∷ []) same;
+ego_line_carried : (s t : Scenario) (c : Command) → AreAlike s t → (e : EgoValue) → IsEgoLine s c e → IsEgoLine t c e
+ego_line_carried s t c same e h = record {
+  problem = h.problem;
+  chosen = subst (λ ps. chosen c.problem ps ≡ Some h.problem) same.problems h.chosen;
+  id = h.id;
+  p = h.p;
+  a = h.a;
+  v = h.v;
+  w = h.w;
+  g = h.g;
+  b = h.b;
 }
 
--- where a prediction was written, its lines claim what they should
-claims : (run : Run) (s t : Scenario) (c : Command) (o : Occupancies) (text : List ℕ) (lines : List Line) → HasLoaded run c s → IsPredicted s c.steps o → Appends run.before run.after (report_of s c.steps o)
-    → (r : Reports run t c text) → IsReport lines → text ≡ report_text lines → Claims t c lines
-claims run s t c o text lines h predicted app r fits same =
-    let lines_are : prediction_lines s.step c.steps s.movers o ≡ lines = texts_tell (prediction_lines s.step c.steps s.movers o) lines
-    (sym (same_text run.before run.after r.old text (report_of s c.steps o) r.before_is r.after_is app) ∙ same) in
-    let both : AreAlike s t = alike r.bytes s t (h.told r.bytes r.told_is).1 r.scenario_is in
-    subst (λ (task : Task). ClaimsOf task t c lines) (sym h.for.task) (begins s t c o lines both.step lines_are, carried s t c lines both (subst (CoversParticipants s c) lines_are (prediction_covers s c o h.range h.ids predicted)))
+entered_carried : (s t : Scenario) (c : Command) (lines : List Line) (i : ℕ) (states : List State) → AreAlike s t → HasEntered s c lines i states → HasEntered t c lines i states
+entered_carried s t c lines i states same h = record {
+  tick = h.tick;
+  state = h.state;
+  early = subst (λ (k : ℕ). h.tick ≤ i * k) same.step h.early;
+  at = h.at;
+  occupied = elim h.occupied as (λ _. IsOccupied t c lines (i - 1) h.tick h.state.p) [
+    | inl f ↦ inl (record { obstacle = f.obstacle; listed = subst (λ fs. Includes fs f.obstacle) same.fixed f.listed; numbers = f.numbers; printed = f.printed; inside = f.inside })
+    | inr p ↦ inr (record {
+      mover = p.mover;
+      listed = subst (λ ms. Includes ms p.mover) same.movers p.listed;
+      starts = p.starts;
+      line = p.line;
+      line_is = p.line_is;
+      printed = p.printed;
+      interval = p.interval;
+      early = p.early;
+      holds = subst (λ k. HoldsTick k c.steps p.interval h.tick) same.step p.holds;
+      numbers = p.numbers;
+      octagon = p.octagon;
+      inside = p.inside;
+    })
+  ];
+}
 
-done_writes : (s : Scenario) (steps : ℕ) (before after : Option (List ℕ)) (status : Status) → IsDone status → WritesPrediction s steps before after status → (o : Occupancies) × IsPredicted s steps o × Appends before after (report_of s steps o)
-done_writes s steps before after Open done h = h
-done_writes s steps before after (Empty i) done h = absurd h
-done_writes s steps before after status done h = absurd done
+ego_carried : (s t : Scenario) (c : Command) (lines : List Line) → AreAlike s t → c.task ≡ Area → CoversEgo s c lines → CoversEgo t c lines
+ego_carried s t c lines same task h = record {
+  ego = h.ego;
+  printed = h.printed;
+  line = ego_line_carried s t c same h.ego h.line;
+  held = λ states is i state within at free. h.held states is i state within (back i state states at) (λ struck. free (over i states struck));
+  struck = λ i last states is state at. over i states (h.struck i last states is state (back i state states at));
+}
+  where
+    back : (i : ℕ) (state : State) (states : List State) → slice_get states (i * t.step) ≡ Some state → slice_get states (i * s.step) ≡ Some state
+    back i state states at = subst (λ (k : ℕ). slice_get states (i * k) ≡ Some state) (sym same.step) at
+
+    over : (i : ℕ) (states : List State) → IsStruck s c lines i states → IsStruck t c lines i states
+    over i states struck = subst (λ (x : Task). IsStruckIn x t c lines i states) (sym task) (entered_carried s t c lines i states same (subst (λ (x : Task). IsStruckIn x s c lines i states) task struck))
+
+begins : (s t : Scenario) (c : Command) (mode : Mode) (lines : List Line) → AreAlike s t → BeginsWith mode s c lines → BeginsWith mode t c lines
+begins s t c mode lines same h = record { rest = h.rest; lines_are = h.lines_are ∙ ap (λ (k : ℕ). head_line mode ∷ time_line k c.steps ∷ h.rest) same.step }
+
+-- what the lines claim of a scenario they claim of another one of the bytes
+claims_carried : (task : Task) (s t : Scenario) (c : Command) (lines : List Line) → IsBuilt task → c.task ≡ task → AreAlike s t → ClaimsOf task s c lines → ClaimsOf task t c lines
+claims_carried Predict s t c lines built is same h = (begins s t c mode.Predict lines same h.0, carried s t c lines same h.1)
+claims_carried Area s t c lines built is same h = (begins s t c mode.Area lines same h.0, carried s t c lines same h.1, ego_carried s t c lines same is h.2)
+claims_carried task s t c lines built is same h = absurd built
+
+done_written : (s : Scenario) (c : Command) (before after : Option (List ℕ)) (status : Status) → IsDone status → Tells s c before after status → HasWritten s c before after status
+done_written s c before after Open done h = h
+done_written s c before after (Empty i) done h = h
+done_written s c before after status done h = absurd done
 
 pub headline : (run : Run) (c : Command) (s : Scenario) → HasLoaded run c s → Headline run
 headline run c s h = λ t d text lines r fits same.
     let one : d ≡ c = h.for.only d r.stands in
-    let (o, predicted, app) = done_writes s c.steps run.before run.after run.status r.done h.written in
-    subst (λ (x : Command). Claims t x lines) (sym one) (claims run s t c o text lines h predicted app (subst (λ (x : Command). Reports run t x text) one r) fits same)
+    let w = done_written s c run.before run.after run.status r.done h.tells in
+    let claims = w.claims r.done in
+    let lines_are : claims.lines ≡ lines = texts_tell claims.lines lines (sym claims.text_is ∙ sym (same_text run.before run.after r.old text w.front r.before_is r.after_is w.appends) ∙ same) in
+    let both : AreAlike s t = alike r.bytes s t (h.told r.bytes r.told_is).1 r.scenario_is in
+    subst (λ (x : Command). Claims t x lines) (sym one) (claims_carried c.task s t c lines h.for.built refl both (subst (Claims s c) lines_are claims.claims))
 
 -- ---- the output
 
-traffic_limits : (s : Scenario) (c : Command) (o : Occupancies) → IsPredicted s c.steps o → IsWithinTraffic s c
-traffic_limits s c o predicted = record { network = predicted.network; pairs = predicted.pairs }
+written_of : (s : Scenario) (c : Command) (before after : Option (List ℕ)) (status : Status) → IsWritten status → Tells s c before after status → HasWritten s c before after status
+written_of s c before after Open written h = h
+written_of s c before after (Empty i) written h = h
+written_of s c before after WriteFault written h = h
+written_of s c before after status written h = absurd written
 
-is_output : (s : Scenario) (c : Command) (o : Occupancies) → c.task ≡ Predict → IsInRange s → AreBuildable s.lanelets.entries → IsCommandInRange c → IsPredicted s c.steps o → IsOutput s c (report_of s c.steps o) end.Done
-is_output s c o task range lanes few predicted = subst (λ (t : Task). IsOutputOf t s c (report_of s c.steps o) end.Done) (sym task) (
-  record {
-    lines = prediction_lines s.step c.steps s.movers o;
-    report = predict_report s c o range predicted.is;
-    fits = fits_report s c.steps o range lanes few.steps.1 predicted;
-    text_is = refl;
-  },
-  refl,
-)
-
--- a front of a report was appended
-front_written : (run : Run) (s : Scenario) (c : Command) (o : Occupancies) (bytes old front back : List ℕ) → HasLoaded run c s → run.told ≡ Some bytes → run.before ≡ Some old → IsPredicted s c.steps o
-    → front ++ back ≡ report_of s c.steps o → Appends run.before run.after front → (IsDone run.status → (back ≡ []) × (run.status ≡ status_of c.task end.Done)) → (new : List ℕ) × (run.after ≡ Some new) × Writes run old new
-front_written run s c o bytes old front back h told_is before_is predicted text app whole =
-    let (new, after_is, grown) = appended run.before run.after old front before_is app in (
+pub output : (run : Run) (c : Command) (s : Scenario) → HasLoaded run c s → WritesOutput run
+output run c s h = λ d old stands told before_is written.
+    let (bytes, told_is) = told (subst (λ (x : Command). ReadsInput x.task) (sym (h.for.only d stands)) (reads_input c h.for.built)) in
+    let w = written_of s c run.before run.after run.status written h.tells in
+    let (new, after_is, grown) = appended run.before run.after old w.front before_is w.appends in (
       new,
       after_is,
       record {
         command = c;
         stands = h.for.stands;
         bytes = bytes;
-        input = is_input c h.for.task run.told bytes told_is (h.told bytes told_is).0.0;
+        input = is_input c h.for.built run.told bytes told_is (h.told bytes told_is).0.0;
         scenario = s;
         scenario_is = (h.told bytes told_is).1;
-        within = within_limits c h.for.task s (traffic_limits s c o predicted);
-        text = report_of s c.steps o;
-        ends = end.Done;
-        output = is_output s c o h.for.task h.range h.lanes h.for.range predicted;
-        front = front;
-        back = back;
-        text_is = text;
+        within = w.passes.within;
+        text = w.text;
+        output = w.output;
+        front = w.front;
+        back = w.back;
+        text_is = w.text_is;
         appended = grown;
-        whole = whole;
+        whole = w.whole;
       },
     )
 
--- what a prediction that was written says, by the status
-written_front : (s : Scenario) (steps : ℕ) (before after : Option (List ℕ)) (status : Status) → IsWritten status → WritesPrediction s steps before after status
-    → (o : Occupancies) × (front back : List ℕ) × IsPredicted s steps o × (front ++ back ≡ report_of s steps o) × Appends before after front × (IsDone status → (back ≡ []) × (status ≡ Open))
-written_front s steps before after Open written (o, predicted, app) = (o, report_of s steps o, [], predicted, append-nil (report_of s steps o), app, λ done. (refl, refl))
-written_front s steps before after WriteFault written (o, predicted, (front, back, text, app)) = (o, front, back, predicted, text, app, λ done. absurd done)
-written_front s steps before after (Empty i) written h = absurd h
-written_front s steps before after status written h = absurd written
-
-opens : (c : Command) → c.task ≡ Predict → status_of c.task end.Done ≡ Open
-opens c task = subst (λ (t : Task). status_of t end.Done ≡ Open) (sym task) refl
-
-pub output : (run : Run) (c : Command) (s : Scenario) → HasLoaded run c s → WritesOutput run
-output run c s h = λ d old stands told before_is written.
-    let (bytes, told_is) = told (subst (λ (x : Command). ReadsInput x.task) (sym (h.for.only d stands)) (reads_input c h.for.task)) in
-    let (o, front, back, predicted, text, app, whole) = written_front s c.steps run.before run.after run.status written h.written in
-    front_written run s c o bytes old front back h told_is before_is predicted text app (λ done. let w = whole done in (w.0, w.1 ∙ sym (opens c h.for.task)))
-
 -- ---- the room in the sink
 
-pub room : (run : Run) (can : ℕ → Type 0) (s : Scenario) (c : Command) (bytes : List ℕ) → TakesOutput run.Stands run.told can → IsForPrediction run c → ((b : List ℕ) → run.told ≡ Some b → IsScenarioOf b s)
-    → IsScenarioOf bytes s → IsInRange s → AreBuildable s.lanelets.entries → TakesPrediction s c.steps can
-room run can s c bytes takes for known of range lanes = λ o predicted. go run.told refl o predicted
+pub room : (run : Run) (can : ℕ → Type 0) (s : Scenario) (c : Command) (bytes : List ℕ) → TakesOutput run.Stands run.told can → IsForCommand run c → ((b : List ℕ) → run.told ≡ Some b → IsScenarioOf b s)
+    → IsScenarioOf bytes s → TakesFor s c can
+room run can s c bytes takes for known of = λ text passes output. go run.told refl text passes output
   where
-    may : (told : Option (List ℕ)) → run.told ≡ told → (b : List ℕ) × IsScenarioOf b s × MayBeInput Predict c told b
-    may None e = (bytes, of, tt)
-    may (Some all) e = (all, known all e, refl)
+    may : (told : Option (List ℕ)) → run.told ≡ told → (b : List ℕ) × IsScenarioOf b s × ((all : List ℕ) → run.told ≡ Some all → b ≡ all)
+    may None e = (bytes, of, λ all is. let none : None ≡ Some all = sym e ∙ is in cc)
+    may (Some known_bytes) e = (known_bytes, known known_bytes e, λ all is. some_injective known_bytes all (sym e ∙ is))
 
-    go : (told : Option (List ℕ)) → run.told ≡ told → (o : Occupancies) → IsPredicted s c.steps o → can (length (report_of s c.steps o))
-    go told e o predicted =
-        let (b, scenario, input) = may told e in
-        takes c b s (report_of s c.steps o) end.Done for.stands (is_built c for.task)
-        (subst (λ (t : Task). MayBeInput t c run.told b) (sym for.task) (subst (λ (x : Option (List ℕ)). MayBeInput Predict c x b) (sym e) input))
-        scenario
-        (record { passing = passes c for.task s; within = within_limits c for.task s (traffic_limits s c o predicted) })
-        (is_output s c o for.task range lanes for.range predicted)
+    go : (told : Option (List ℕ)) → run.told ≡ told → (text : List ℕ) → PassesAll s c → IsOutputSoFar s c text → can (length text)
+    go told e text passes output =
+        let (b, scenario, same) = may told e in
+        takes c b s text for.stands for.built (may_task c.task c run.told b for.built same) scenario passes output

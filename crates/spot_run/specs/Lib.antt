@@ -2,4 +2,5 @@
 pub mod Lines
 pub mod Loads
 pub mod RunOf
+pub mod Tells
 pub mod Writes

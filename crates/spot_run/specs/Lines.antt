@@ -1,6 +1,7 @@
 -- The lines of a prediction.
 use Rattle.std.specs.Prelude.{ℕ, ◌+◌, ◌==◌, List, [], ◌∷◌, ◌++◌, map, flat_map, if◌then◌else◌}
 use Rattle.spot_terms.specs.Report.{Line, head_line, time_line, mover_line, late_line, fixed_line, lane_line, occ_line, last_line}
+use Rattle.spot_terms.specs.declared.lines.Mode.{Mode}
 use Rattle.spot_terms.specs.declared.lines.Mode.TheVariants as mode
 use Rattle.spot_terms.specs.declared.lines.End.TheVariants as end
 use Rattle.spot_terms.specs.declared.lines.MoverLine.{MoverLine}
@@ -43,14 +44,22 @@ occupancy_lines p = octagon_lines p.id 0 p.octs
 abbrev pub traffic_lines : List Mover → Occupancies → List Line
 traffic_lines movers o = obstacle_lines movers o.participants ++ map octagon_line o.fixed ++ flat_map lane_lines o.participants ++ flat_map occupancy_lines o.participants
 
--- the whole report of steps of k ticks
+-- what a report with traffic begins with, of steps of k ticks
+abbrev pub opening_lines : Mode → ℕ → ℕ → List Mover → Occupancies → List Line
+opening_lines mode k steps movers o = head_line mode ∷ time_line k steps ∷ traffic_lines movers o
+
+-- such a report
+abbrev pub report_lines : Mode → ℕ → ℕ → List Mover → Occupancies → List Line → List Line
+report_lines mode k steps movers o more = opening_lines mode k steps movers o ++ more
+
+-- the whole report of a prediction
 abbrev pub prediction_lines : ℕ → ℕ → List Mover → Occupancies → List Line
-prediction_lines k steps movers o = head_line mode.Predict ∷ time_line k steps ∷ traffic_lines movers o ++ last_line end.Done ∷ []
+prediction_lines k steps movers o = report_lines mode.Predict k steps movers o (last_line end.Done ∷ [])
 
 -- what stands before the static obstacles
-abbrev pub front_lines : Scenario → ℕ → List Participant → List Line
-front_lines s steps ps = head_line mode.Predict ∷ time_line s.step steps ∷ obstacle_lines s.movers ps
+abbrev pub front_lines : Mode → Scenario → ℕ → List Participant → List Line
+front_lines mode s steps ps = head_line mode ∷ time_line s.step steps ∷ obstacle_lines s.movers ps
 
 -- what stands behind them
 abbrev pub back_lines : List Participant → List Line
-back_lines ps = flat_map lane_lines ps ++ flat_map occupancy_lines ps ++ last_line end.Done ∷ []
+back_lines ps = flat_map lane_lines ps ++ flat_map occupancy_lines ps

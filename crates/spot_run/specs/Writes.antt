@@ -12,6 +12,7 @@ use Rattle.spot_terms.specs.declared.scenario.Scenario.{Scenario}
 use Rattle.spot_terms.specs.declared.status.Status.{Status}
 use Rattle.spot_terms.specs.declared.status.Status.TheVariants.{Open, Limit, WriteFault, Memory}
 use Rattle.spot_terms.specs.declared.status.Which.TheVariants.{TooManyCells, LaneTooWide, TooManyLanePolygons}
+use Rattle.participants.specs.Pieces.{HasPieces}
 use Rattle.participants.specs.Predictions.{HoldsMotions, Occupancies, IsPrediction}
 use Rattle.spot_run.specs.Lines.{prediction_lines}
 
@@ -23,6 +24,7 @@ pub record IsPredicted (s : Scenario) (steps : ℕ) (o : Occupancies) : Type 0 w
   pub network : HasNetwork s.lanelets.entries
   pub pairs : (n : ℕ) → HasPairs s steps n → n ≤ MOST_LANE_POLYGONS
   pub is : IsPrediction s steps o
+  pub pieces : HasPieces s steps o
   pub holds : AllByRecursion (λ p. HoldsMotions s.lanelets.entries s.step steps p) o.participants
 
 -- why a scenario has no prediction: the limit that it passes; want of memory may come at any time

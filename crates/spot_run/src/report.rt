@@ -6,7 +6,7 @@ ghost use Rattle.std.specs.List.{AllByRecursion};
 ghost use Rattle.spot_terms.specs.Report.{report_text};
 ghost use Rattle.spot_terms.specs.Participants.{starting};
 ghost use Rattle.spot_io.specs.Writes.{WritesText};
-ghost use Rattle.spot_run.specs.Lines.{line_of as participant_line, obstacle_lines, octagon_line, octagon_lines, occupancy_lines, polygon_line, lane_lines, front_lines, back_lines};
+ghost use Rattle.spot_run.specs.Lines.{line_of as participant_line, obstacle_lines, octagon_line, octagon_lines, occupancy_lines, polygon_line, lane_lines, front_lines, back_lines, opening_lines};
 ghost use Rattle.spot_run.specs.Writes.{report_of};
 
 use convex_poly::OctNumbers;
@@ -115,28 +115,48 @@ fn write_occupancies<K: Sink>(sink: &mut K, participants: &[Participant]) -> Res
 // The head, and the lines of the dynamic obstacles.
 fn write_front<K: Sink>(
     sink: &mut K,
+    mode: Mode,
     scenario: &Scenario,
     participants: &[Participant],
     steps: u32,
 ) -> Result<(), SinkFault>
     requires enough { length (starting scenario.now.movers) ≤ length participants.now }
-    requires room { K.takes sink.old (length (report_text (front_lines scenario.now steps participants.now))) }
-    ensures { WritesText K.Sink sink.old sink.new (report_text (front_lines scenario.now steps participants.now)) result }
+    requires room { K.takes sink.old (length (report_text (front_lines mode scenario.now steps participants.now))) }
+    ensures { WritesText K.Sink sink.old sink.new (report_text (front_lines mode scenario.now steps participants.now)) result }
 {
-    write_head(sink, Mode::Predict)?;
+    write_head(sink, mode)?;
     write_time(sink, scenario.step, steps)?;
     write_obstacles(sink, scenario.movers.list(), participants)
 }
 
-// The lines of the participants' lane polygons and octagons, and the end.
+// The lines of the participants' lane polygons and octagons.
 fn write_back<K: Sink>(sink: &mut K, participants: &[Participant]) -> Result<(), SinkFault>
     requires few { AllByRecursion (λ p. length p.octs ≤ MOST_STEPS) participants.now }
     requires room { K.takes sink.old (length (report_text (back_lines participants.now))) }
     ensures { WritesText K.Sink sink.old sink.new (report_text (back_lines participants.now)) result }
 {
     write_lanes(sink, participants)?;
-    write_occupancies(sink, participants)?;
-    write_end(sink, End::Done)
+    write_occupancies(sink, participants)
+}
+
+/// Writes what a report with traffic begins with: the mode, the time, and the lines of all obstacles. At `SinkFault` the
+/// sink's count of faults rose in this call, and a front of these lines was appended.
+pub fn write_traffic<K: Sink>(
+    sink: &mut K,
+    mode: Mode,
+    scenario: &Scenario,
+    prediction: &Prediction,
+    steps: u32,
+) -> Result<(), SinkFault>
+    requires enough { length (starting scenario.now.movers) ≤ length prediction.now.participants }
+    requires few { AllByRecursion (λ p. length p.octs ≤ MOST_STEPS) prediction.now.participants }
+    requires room { K.takes sink.old (length (report_text (opening_lines mode scenario.now.step steps scenario.now.movers prediction.now))) }
+    ensures { WritesText K.Sink sink.old sink.new (report_text (opening_lines mode scenario.now.step steps scenario.now.movers prediction.now)) result }
+{
+    let participants = prediction.list();
+    write_front(sink, mode, scenario, participants, steps)?;
+    write_octagons(sink, prediction.fixed())?;
+    write_back(sink, participants)
 }
 
 /// Writes the report of a prediction, of so many steps. At `SinkFault` the sink's count of faults rose in this call, and a
@@ -152,8 +172,6 @@ pub fn write_prediction<K: Sink>(
     requires room { K.takes sink.old (length (report_of scenario.now steps prediction.now)) }
     ensures { WritesText K.Sink sink.old sink.new (report_of scenario.now steps prediction.now) result }
 {
-    let participants = prediction.list();
-    write_front(sink, scenario, participants, steps)?;
-    write_octagons(sink, prediction.fixed())?;
-    write_back(sink, participants)
+    write_traffic(sink, Mode::Predict, scenario, prediction, steps)?;
+    write_end(sink, End::Done)
 }

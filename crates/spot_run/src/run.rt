@@ -1,14 +1,17 @@
 //! The top call.
 
-ghost use Rattle.std.specs.Prelude.{◌≡◌, ℕ, ◌≤◌, IfOk, IfErr};
+ghost use Rattle.std.specs.Prelude.{◌≡◌, ◌↔◌, ℕ, ◌≤◌, IfOk, IfErr, IsTrue};
 ghost use Rattle.lanelets.specs.Buildable.{AreBuildable};
 ghost use Rattle.spot_terms.specs.Causes.{Rose};
+ghost use Rattle.spot_terms.specs.Ids.{HaveUniqueIds};
 ghost use Rattle.spot_terms.specs.Limits.{HasNetwork};
-ghost use Rattle.spot_terms.specs.Ranges.{IsInRange};
+ghost use Rattle.spot_terms.specs.Ranges.{IsCommandInRange, IsInRange};
 ghost use Rattle.spot_run.specs.RunOf.{run_of};
+ghost use Rattle.spot_run.specs.Tells.{TakesFor, Tells};
 ghost use Rattle.spot_run.specs.Writes.{IsPastLimit, IsPredicted, TakesPrediction, WritesPrediction};
 ghost use Rattle.spot_words.specs.Words.{StandsFor};
 ghost use Rattle.spot_claims.specs.Answers.{AreaTooWideExactly, BadWordsExactly, EgoTooFastExactly, IsKnown, LaneTooWideExactly, LateProblemExactly, NoProblemExactly, NotJsonExactly, NotTreeExactly, NotYetExactly, ReadFaultOnly, RefusedExactly, TooLongExactly, TooManyBoxesExactly, TooManyCellsExactly, TooManyLanePolygonsExactly, WriteFaultOnly};
+ghost use Rattle.spot_claims.specs.Built.{IsBuilt};
 ghost use Rattle.spot_claims.specs.Headline.{Headline};
 ghost use Rattle.spot_claims.specs.Outcomes.{Completes, ReadsSource, TakesOutput, WritesOutput};
 ghost use Rattle.spot_claims.specs.Outputs.{IsWritten};
@@ -19,7 +22,7 @@ use crate::report::write_prediction;
 use lanelets::{NetFault, Network, build};
 use participants::{PredictFault, Prediction, predict};
 use spot_io::{Sink, Source};
-use spot_terms::{Code, MOST_STEPS, Scenario, Status, Task, Which};
+use spot_terms::{Code, Command, MOST_STEPS, Scenario, Status, Task, Which};
 use spot_words::read_words;
 use std::alloc::Global;
 
@@ -73,6 +76,40 @@ fn write_report<K: Sink>(alloc: Global, scenario: &Scenario, steps: u32, sink: &
     match write_prediction(sink, scenario, &prediction, steps) {
         Ok(()) => Status::Open,
         Err(_) => Status::WriteFault,
+    }
+}
+
+// Whether a task is built.
+fn is_built(task: Task) -> bool
+    ensures { IsTrue result ↔ IsBuilt task }
+{
+    match task {
+        Task::Predict => true,
+        Task::Area | Task::Replay | Task::Draw | Task::Sample => false,
+    }
+}
+
+// Writes the output of a command whose task is built.
+fn write_output<K: Sink>(
+    alloc: Global,
+    scenario: &Scenario,
+    command: &Command,
+    sink: &mut K,
+) -> Status
+    requires range { IsInRange scenario.now }
+    requires ids { HaveUniqueIds scenario.now }
+    requires lanes { AreBuildable scenario.now.lanelets.entries }
+    requires command { IsCommandInRange command.now }
+    requires built { IsBuilt command.now.task }
+    requires room { TakesFor scenario.now command.now (λ n. K.takes sink.old n) }
+    ensures tells { Tells scenario.now command.now (K.written sink.old) (K.written sink.new) result }
+    ensures kept { (IsWritten result → ⊥) → sink.new ≡ sink.old }
+    ensures later { K.faults sink.old ≤ K.faults sink.new }
+    ensures cause { result ≡ Status.WriteFault → Rose (K.faults sink.old) (K.faults sink.new) }
+{
+    match command.task {
+        Task::Predict => write_report(alloc, scenario, command.steps, sink),
+        Task::Area | Task::Replay | Task::Draw | Task::Sample => Status::Refused(Code::NotYet, 0),
     }
 }
 
@@ -132,11 +169,11 @@ pub fn run_spot<S: Source, K: Sink>(
         Ok(None) => return Status::BadWords,
         Err(_) => return Status::Memory,
     };
-    let Task::Predict = command.task else {
+    if !is_built(command.task) {
         return Status::Refused(Code::NotYet, 0);
-    };
+    }
     match load(alloc, source) {
-        Ok(scenario) => write_report(alloc, &scenario, command.steps, sink),
+        Ok(scenario) => write_output(alloc, &scenario, &command, sink),
         Err(status) => status,
     }
 }

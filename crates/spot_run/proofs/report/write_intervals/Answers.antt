@@ -3,7 +3,7 @@ use Rattle.std.proofs.lemmas.List.{drop_more, drop_all}
 use Rattle.spot_terms.specs.Report.{occ_line, line_text, report_text}
 use Rattle.convex_poly.specs.declared.oct_numbers.OctNumbers.{OctNumbers}
 use Rattle.spot_run.specs.Lines.{octagon_lines}
-use Rattle.spot_run.proofs.Writing.{report_text-cons, report_text-nil}
+use Rattle.text_report.proofs.ReportLines.{report_text-cons, report_text-nil}
 use Rattle.spot_io.proofs.Writing.{nothing_yet, next_written, fault_next, takes_next, all_written}
 use Rattle.spot_run.proofs.report.write_intervals.Goals as goal
 

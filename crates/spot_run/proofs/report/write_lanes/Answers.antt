@@ -4,7 +4,7 @@ use Rattle.spot_terms.specs.Report.{report_text}
 use Rattle.lane_occupancy.specs.declared.polygons.LanePoly.{LanePoly}
 use Rattle.participants.specs.declared.participant.Participant.{Participant}
 use Rattle.spot_run.specs.Lines.{polygon_line, lane_lines}
-use Rattle.spot_run.proofs.Writing.{next_lines, no_lines_left}
+use Rattle.text_report.proofs.ReportLines.{next_lines, no_lines_left}
 use Rattle.spot_io.proofs.Writing.{nothing_yet, next_written, fault_next, takes_next, all_written}
 use Rattle.spot_run.proofs.report.write_lanes.Goals as goal
 

@@ -2,7 +2,7 @@ use Rattle.std.proofs.Common.{◌+◌, ℕ, [], drop, get_or, map}
 use Rattle.spot_terms.specs.Report.{line_text, report_text}
 use Rattle.convex_poly.specs.declared.oct_numbers.OctNumbers.{OctNumbers}
 use Rattle.spot_run.specs.Lines.{octagon_line}
-use Rattle.spot_run.proofs.Writing.{next_of_map, no_line_left}
+use Rattle.text_report.proofs.ReportLines.{next_of_map, no_line_left}
 use Rattle.spot_io.proofs.Writing.{nothing_yet, next_written, fault_next, takes_next, all_written}
 use Rattle.spot_run.proofs.report.write_octagons.Goals as goal
 

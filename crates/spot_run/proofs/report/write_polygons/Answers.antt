@@ -1,7 +1,7 @@
 use Rattle.std.proofs.Common.{◌+◌, drop, map}
 use Rattle.spot_terms.specs.Report.{line_text, report_text}
 use Rattle.spot_run.specs.Lines.{polygon_line}
-use Rattle.spot_run.proofs.Writing.{next_line, no_line_left}
+use Rattle.text_report.proofs.ReportLines.{next_line, no_line_left}
 use Rattle.spot_io.proofs.Writing.{nothing_yet, next_written, fault_next, takes_next, all_written}
 use Rattle.spot_run.proofs.report.write_polygons.Goals as goal
 

@@ -1,64 +1,31 @@
-use Rattle.std.proofs.Common.{◌≡◌, ◌∙◌, ◌++◌, ◌∷◌, [], ℕ, List, map, ap, sym, refl, append_assoc}
-use Rattle.std.specs.List.{flat_map}
-use Rattle.spot_terms.specs.Report.{Line, head_line, time_line, last_line, report_text}
-use Rattle.spot_terms.specs.declared.lines.Mode.TheVariants.{Predict}
+use Rattle.std.proofs.Common.{◌≡◌, ◌∙◌, ◌++◌, ℕ, List, ap}
+use Rattle.spot_terms.specs.Report.{last_line, line_text, report_text}
 use Rattle.spot_terms.specs.declared.lines.End.TheVariants.{Done}
+use Rattle.spot_terms.specs.declared.lines.Mode.TheVariants.{Predict}
 use Rattle.spot_terms.specs.declared.scenario.Scenario.{Scenario}
 use Rattle.spot_io.proofs.Writing.{nothing_yet, next_written, last_written, fault_next, takes_next, takes_rest}
-use Rattle.convex_poly.specs.declared.oct_numbers.OctNumbers.{OctNumbers}
-use Rattle.participants.specs.declared.participant.Participant.{Participant}
 use Rattle.participants.specs.Predictions.{Occupancies}
-use Rattle.spot_run.specs.Lines.{obstacle_lines, octagon_line, lane_lines, occupancy_lines, prediction_lines, front_lines, back_lines}
+use Rattle.spot_run.specs.Lines.{opening_lines}
 use Rattle.spot_run.specs.Writes.{report_of}
-use Rattle.spot_run.proofs.Writing.{report_text-append}
+use Rattle.text_report.proofs.ReportLines.{report_text-append, report_text-one}
 use Rattle.spot_run.proofs.report.write_prediction.Goals as goal
 
-five : (a b c d e : List Line) → (((a ++ b) ++ c) ++ d) ++ e ≡ a ++ (b ++ ((c ++ d) ++ e))
-five a b c d e = append_assoc ((a ++ b) ++ c) d e ∙ append_assoc (a ++ b) c (d ++ e) ∙ append_assoc a b (c ++ (d ++ e)) ∙ ap (λ (x : List Line). a ++ (b ++ x)) (sym (append_assoc c d e))
+-- the traffic and the end
+parts : (s : Scenario) (steps : ℕ) (o : Occupancies) → report_of s steps o ≡ report_text (opening_lines Predict s.step steps s.movers o) ++ line_text (last_line Done)
+parts s steps o =
+    report_text-append (opening_lines Predict s.step steps s.movers o) _
+    ∙ ap (λ (x : List ℕ). report_text (opening_lines Predict s.step steps s.movers o) ++ x) (report_text-one (last_line Done))
 
--- the front, the static obstacles and the back of a list of lines
-lines : (s : Scenario) (steps : ℕ) (o : Occupancies) → prediction_lines s.step steps s.movers o ≡ front_lines s steps o.participants ++ (map octagon_line o.fixed ++ back_lines o.participants)
-lines s steps o = ap (λ (ls : List Line). head_line Predict ∷ time_line s.step steps ∷ ls)
-    (five (obstacle_lines s.movers o.participants) (map octagon_line o.fixed) (flat_map lane_lines o.participants) (flat_map occupancy_lines o.participants) (last_line Done ∷ []))
-
--- their texts, over the lists that the prediction gives
-parts : (s : Scenario) (steps : ℕ) (o : Occupancies) (ps : List Participant) (os : List (ℕ × OctNumbers)) → ps ≡ o.participants → os ≡ o.fixed
-    → report_of s steps o ≡ report_text (front_lines s steps ps) ++ (report_text (map octagon_line os) ++ report_text (back_lines ps))
-parts s steps o ps os e f =
-    ap report_text (lines s steps o) ∙ report_text-append (front_lines s steps o.participants) (map octagon_line o.fixed ++ back_lines o.participants)
-    ∙ ap (λ (x : List ℕ). report_text (front_lines s steps o.participants) ++ x) (report_text-append (map octagon_line o.fixed) (back_lines o.participants))
-    ∙ ap (λ (qs : List Participant). report_text (front_lines s steps qs) ++ (report_text (map octagon_line o.fixed) ++ report_text (back_lines qs))) (sym e)
-    ∙ ap (λ (ns : List (ℕ × OctNumbers)). report_text (front_lines s steps ps) ++ (report_text (map octagon_line ns) ++ report_text (back_lines ps))) (sym f)
-
-pub write_front-requires-clause-room : goal.write_front-requires-clause-room
-write_front-requires-clause-room g c =
-    takes_next {sink = g.K.Sink} (report_text (front_lines c.args.scenario.now c.args.steps c.list-participants.result.now)) _ (nothing_yet c.args.sink.now _) (parts c.args.scenario.now c.args.steps c.args.prediction.now c.list-participants.result.now _ c.list-participants.ensures refl)
+pub write_traffic-requires-clause-room : goal.write_traffic-requires-clause-room
+write_traffic-requires-clause-room g c =
+    takes_next {sink = g.K.Sink} (report_text (opening_lines Predict c.args.scenario.now.step c.args.steps c.args.scenario.now.movers c.args.prediction.now)) _ (nothing_yet c.args.sink.now _) (parts c.args.scenario.now c.args.steps c.args.prediction.now)
     (g.met.K.Sink.fewer c.args.sink.now) c.requires.room
 
-pub returns-in_err-write_front : goal.returns-in_err-write_front
-returns-in_err-write_front g c =
-    fault_next _ c.from_residual.result (nothing_yet _ _) (parts c.args.scenario.now c.args.steps c.args.prediction.now c.list-participants.result.now _ c.list-participants.ensures refl) c.in_err-write_front.ensures c.from_residual.ensures.0
+pub returns-in_err-write_traffic : goal.returns-in_err-write_traffic
+returns-in_err-write_traffic g c = fault_next _ c.from_residual.result (nothing_yet _ _) (parts c.args.scenario.now c.args.steps c.args.prediction.now) c.in_err-write_traffic.ensures c.from_residual.ensures.0
 
-pub write_octagons-requires : goal.write_octagons-requires
-write_octagons-requires g c =
-    takes_next (report_text (map octagon_line c.fixed.result.now)) _
-    (next_written (nothing_yet _ _) (parts c.args.scenario.now c.args.steps c.args.prediction.now c.list-participants.result.now c.fixed.result.now c.list-participants.ensures c.fixed.ensures) c.in_ok-write_front.ensures) refl
-    (g.met.K.Sink.fewer c.write_front.new.sink) c.requires.room
-
-pub returns-in_err-write_octagons : goal.returns-in_err-write_octagons
-returns-in_err-write_octagons g c =
-    fault_next _ c.from_residual-in_err-write_octagons.result
-    (next_written (nothing_yet _ _) (parts c.args.scenario.now c.args.steps c.args.prediction.now c.list-participants.result.now c.fixed.result.now c.list-participants.ensures c.fixed.ensures) c.in_ok-write_front.ensures) refl
-    c.in_err-write_octagons.ensures c.from_residual-in_err-write_octagons.ensures.0
-
-pub write_back-requires-clause-room : goal.write_back-requires-clause-room
-write_back-requires-clause-room g c =
-    takes_rest
-    (next_written (next_written (nothing_yet _ _) (parts c.args.scenario.now c.args.steps c.args.prediction.now c.list-participants.result.now c.fixed.result.now c.list-participants.ensures c.fixed.ensures) c.in_ok-write_front.ensures) refl c.in_ok-write_octagons.ensures)
-    c.requires.room
+pub write_end-requires : goal.write_end-requires
+write_end-requires g c = takes_rest (next_written (nothing_yet _ _) (parts c.args.scenario.now c.args.steps c.args.prediction.now) c.in_ok-write_traffic.ensures) c.requires.room
 
 pub returns : goal.returns
-returns g c =
-    last_written
-    (next_written (next_written (nothing_yet _ _) (parts c.args.scenario.now c.args.steps c.args.prediction.now c.list-participants.result.now c.fixed.result.now c.list-participants.ensures c.fixed.ensures) c.in_ok-write_front.ensures) refl c.in_ok-write_octagons.ensures)
-    c.write_back.ensures
+returns g c = last_written (next_written (nothing_yet _ _) (parts c.args.scenario.now c.args.steps c.args.prediction.now) c.in_ok-write_traffic.ensures) c.write_end.ensures

@@ -1,5 +1,5 @@
 -- The texts of lines, one by one.
-use Rattle.std.proofs.Common.{◌≡◌, ◌∙◌, ℕ, ◌+◌, ◌<◌, ◌≤◌, List, [], ◌∷◌, ◌++◌, map, drop, get_or, length, refl, sym, ap}
+use Rattle.std.proofs.Common.{◌≡◌, ◌∙◌, ℕ, ◌+◌, ◌<◌, ◌≤◌, List, [], ◌∷◌, ◌++◌, map, drop, get_or, length, refl, sym, ap, append-nil}
 use Rattle.std.specs.List.{flat_map}
 use Rattle.std.proofs.lemmas.List.{drop_more, drop_all}
 use Rattle.std.proofs.lemmas.Grind.{flat_map-append}
@@ -12,6 +12,9 @@ report_text-cons l ls = refl
 pub report_text-nil : report_text [] ≡ []
 unfolding report_text
 report_text-nil = refl
+
+pub report_text-one : (l : Line) → report_text (l ∷ []) ≡ line_text l
+report_text-one l = report_text-cons l [] ∙ ap (λ (x : List ℕ). line_text l ++ x) report_text-nil ∙ append-nil (line_text l)
 
 pub report_text-append : (ks ls : List Line) → report_text (ks ++ ls) ≡ report_text ks ++ report_text ls
 unfolding report_text
