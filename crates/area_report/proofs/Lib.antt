@@ -1,0 +1,4 @@
+pub mod StepTexts
+pub mod RunTexts
+pub mod FitsSteps
+pub mod Egos

@@ -1,0 +1,3 @@
+-- What is written of a run of the drivable area.
+pub mod Areas
+pub mod Egos
