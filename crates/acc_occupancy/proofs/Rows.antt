@@ -8,17 +8,13 @@ use Rattle.spot_terms.specs.Whole.{quotient_floor}
 use Rattle.spot_terms.proofs.Quotients.{quotient_floor-is}
 use Rattle.acc_occupancy.specs.declared.line.Line.{Line}
 use Rattle.acc_occupancy.specs.Lines.{IsLineInRange, line_speed, line_place, IsRising, pairs, half, risen_place, bend_way, capped_way}
-use Rattle.spot_terms.proofs.Orders.{zero_times, times_not_negative}
+use Rattle.spot_terms.proofs.Orders.{zero_times, times_not_negative, one_times}
 
 -- ---- multiples and halves
 
 sum_times : (a b : ℕ) (z : ℤ) → pos (a + b) *ℤ z ≡ pos a *ℤ z +ℤ pos b *ℤ z
 sum_times a b (pos n) = omega (arith, ints)
 sum_times a b (negsuc n) = omega (arith, ints)
-
-one_times : (z : ℤ) → pos 1 *ℤ z ≡ z
-one_times (pos n) = omega (arith, ints)
-one_times (negsuc n) = omega (arith, ints)
 
 pub suc_times : (k : ℕ) (z : ℤ) → pos (suc k) *ℤ z ≡ pos k *ℤ z +ℤ z
 suc_times k (pos n) = omega (arith, ints)

@@ -14,6 +14,7 @@ use Rattle.carve.specs.Ranges.{AreRunPlaces, IsRowNear}
 use Rattle.carve.proofs.Founds.{low_le}
 use Rattle.propagate.specs.Children.{IsChildIn, IsInPlane}
 use Rattle.merge_sets.specs.Tables.{IsAddable}
+use Rattle.spot_terms.proofs.Orders.{at_most_trans}
 
 -- a child can be added to the table of its box
 pub child_addable : (lo hi v : ℤ) (child : List Pt) → Within (pos 0) (pos 900_000) v → IsChildIn lo hi v child → IsAddable lo hi child
@@ -60,12 +61,9 @@ pub run_places : (Removed : ℤ → Type 0) (width lo hi first last : ℤ) (runs
     → slot width lo ≤ℤ first → last ≤ℤ slot width hi → AreFreeRuns Removed width first last runs → AreRunPlaces runs
 run_places Removed width lo hi first last runs wide a b from to free = all_of (λ run. SizeAtMost 40_000_000_000_000 run.0 × SizeAtMost 40_000_000_000_000 run.1) runs (λ run j.
     let r = free.each run j in
-    let near = slot_near width lo hi r.col wide a b (record { low = trans (slot width lo) first r.col from r.among.low; high = trans r.col last (slot width hi) r.among.high to }) in
+    let near = slot_near width lo hi r.col wide a b (record { low = at_most_trans (slot width lo) first r.col from r.among.low; high = at_most_trans r.col last (slot width hi) r.among.high to }) in
     small run.0 run.1 (slot_low width r.col) (slot_high width r.col) near.low near.high r.free_run.low r.free_run.some r.free_run.high)
   where
-    trans : (a b c : ℤ) → a ≤ℤ b → b ≤ℤ c → a ≤ℤ c
-    trans a b c h k = omega (arith, ints, h, k)
-
     small : (x y l h : ℤ) → nat_abs l ≤ 22_000_000_000_000 → nat_abs h ≤ 22_000_000_000_000 → l ≤ℤ x → x ≤ℤ y → y ≤ℤ h → SizeAtMost 40_000_000_000_000 x × SizeAtMost 40_000_000_000_000 y
     small x y l h p q a b c = (omega (arith, ints, p, q, a, b, c), omega (arith, ints, p, q, a, b, c))
 

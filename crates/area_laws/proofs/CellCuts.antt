@@ -31,6 +31,7 @@ use Rattle.area_laws.specs.CellSets.{Cut, sets_of, IsThisCell, HoldIn, AreSetsAt
 use Rattle.area_laws.specs.Filling.{Pair, IsFilledFrom}
 use Rattle.area_laws.specs.Leading.{IsNextState}
 use Rattle.area_laws.proofs.Parts.{is_merged, not_merged, merged_one}
+use Rattle.spot_terms.proofs.Slots.{place_in_slot}
 
 -- ---- the cuts of a set, with the starts of their runs
 
@@ -89,17 +90,6 @@ starts_ascend (r ∷ runs) some a = (
   all_of (λ s. r.0 <ℤ s.0) runs (λ s j. at_most_below r.0 r.1 s.0 (some r (inl refl)) (all_included (λ s. r.1 <ℤ s.0) runs s a.0 j)),
   starts_ascend runs (λ s j. some s (inr j)) a.1,
 )
-
--- ---- the cells of places
-
-pub slot_holds : (g y : ℤ) → pos 0 <ℤ g → Within (slot_low g (slot g y)) (slot_high g (slot g y)) y
-slot_holds g y wide = record {
-  low = product_le_at y g (slot g y) wide refl;
-  high = let k = next_product_gt_at y g (slot g y) wide refl in omega (arith, ints, spread_left (slot g y) (pos 1) g);
-}
-
-pub place_in_slot : (g y c : ℤ) → pos 0 <ℤ g → slot g y ≡ c → Within (slot_low g c) (slot_high g c) y
-place_in_slot g y c wide e = subst (λ (z : ℤ). Within (slot_low g z) (slot_high g z) y) e (slot_holds g y wide)
 
 abbrev set_from : ℤ → ℤ → List Pt → List Pt → SetValue
 set_from c r x y = record { col = c; row = r; x = x; y = y }

@@ -20,7 +20,6 @@ use Rattle.spot_terms.proofs.ListLemmas.{includes_either}
 use Rattle.spot_terms.proofs.Members.{in_map}
 use Rattle.round_out.specs.declared.frames.FrameNumbers.{FrameNumbers}
 use Rattle.propagate.specs.Children.{AreChildren, HoldsNext, HoldsPlane, IsPlaneChild, IsNext}
-use Rattle.carve.proofs.RowCounts.{slots_rise}
 use Rattle.carve.proofs.RowPlaces.{columns_counted}
 use Rattle.merge_sets.specs.Merging.{CollectsAll}
 use Rattle.merge_sets.specs.Tables.{HoldsInCell, PartsHold, Table}
@@ -33,6 +32,7 @@ use Rattle.area_laws.specs.Laws.{GroupsFill}
 use Rattle.area_laws.proofs.Groups.{group_away, group_collects, group_none, group_part, row_numbers}
 use Rattle.area_laws.proofs.Pairs.{one_more, none_more}
 use Rattle.area_laws.proofs.Sides.{child_inside, in_bound}
+use Rattle.spot_terms.proofs.Slots.{slots_rise}
 
 -- ---- the children of a set by planes
 

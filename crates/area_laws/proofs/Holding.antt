@@ -20,8 +20,9 @@ use Rattle.spot_terms.proofs.Steps.{bound_at, start_at}
 use Rattle.base_sets.proofs.Passes.{passes_x, passes_y}
 use Rattle.area_laws.specs.Holding.{AreUpright}
 use Rattle.area_laws.specs.Leading.{IsPlaceRemoved, LeadsOn}
-use Rattle.area_laws.proofs.Boxes.{stays_in_box}
-use Rattle.area_laws.proofs.CellCuts.{slot_holds}
+use Rattle.base_sets.proofs.Boxes.{stays_in_box}
+use Rattle.spot_terms.proofs.Orders.{below_true, at_least_false, equal_between}
+use Rattle.spot_terms.proofs.Slots.{slot_holds}
 
 -- ---- motions by their ticks
 
@@ -32,17 +33,8 @@ earlier states m n t e = let below = got_below states (m + n) t e in item_at sta
 -- a speed of a segment
 in_segment : (p lo hi v : ℤ) → Within lo hi v → InHull (segment p lo hi) (at p v)
 in_segment p lo hi v w = by_lt_z lo hi
-    (λ less. rw (is_less lo hi less) (hull_laws.upright (at p lo ∷ at p hi ∷ []) p lo v hi w.low w.high (hull_laws.member (at p lo ∷ at p hi ∷ []) (at p lo) (inl refl)) (hull_laws.member (at p lo ∷ at p hi ∷ []) (at p hi) (inr (inl refl)))))
-    (λ not. rw (not_less lo hi not) (subst (λ (z : ℤ). InHull (at p lo ∷ []) (at p z)) (one lo v hi w.low w.high not) (hull_laws.member (at p lo ∷ []) (at p lo) (inl refl))))
-  where
-    is_less : (a b : ℤ) → a <ℤ b → int_lt a b ≡ true
-    is_less a b h = search (rules, h)
-
-    not_less : (a b : ℤ) → b ≤ℤ a → int_lt a b ≡ false
-    not_less a b h = search (rules, h)
-
-    one : (a v b : ℤ) → a ≤ℤ v → v ≤ℤ b → b ≤ℤ a → a ≡ v
-    one a v b h k l = omega (arith, ints, h, k, l)
+    (λ less. rw (below_true lo hi less) (hull_laws.upright (at p lo ∷ at p hi ∷ []) p lo v hi w.low w.high (hull_laws.member (at p lo ∷ at p hi ∷ []) (at p lo) (inl refl)) (hull_laws.member (at p lo ∷ at p hi ∷ []) (at p hi) (inr (inl refl)))))
+    (λ not. rw (at_least_false lo hi not) (subst (λ (z : ℤ). InHull (at p lo ∷ []) (at p z)) (equal_between lo v hi w.low w.high not) (hull_laws.member (at p lo ∷ []) (at p lo) (inl refl))))
 
 -- ---- the steps
 

@@ -1,6 +1,5 @@
 pub mod Parts
 pub mod Pairs
-pub mod Boxes
 pub mod Sides
 pub mod Corners
 pub mod Frames

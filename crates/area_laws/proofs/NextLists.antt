@@ -13,7 +13,6 @@ use Rattle.spot_terms.specs.StepLists.{IsCut, ComesBefore, IsNextList}
 use Rattle.spot_terms.specs.declared.plain.Pt.{Pt}
 use Rattle.spot_terms.proofs.ListLemmas.{all_of, all_included, includes_front, includes_back, includes_either}
 use Rattle.carve.specs.Cuts.{IsCutBy}
-use Rattle.carve.proofs.RowCounts.{slots_rise}
 use Rattle.merge_sets.specs.Tables.{IsMergedIn, Table}
 use Rattle.area_laws.specs.CellSets.{Cut, sets_of, IsCellBefore, IsThisCell, AreSetsOf, AreSetsBefore, AreSetsAt}
 use Rattle.area_laws.specs.Filling.{IsFilledFrom}
@@ -22,16 +21,8 @@ use Rattle.area_laws.specs.Leading.{IsNextState, IsRemovedOrHeld, LeadsOn}
 use Rattle.area_laws.specs.Reaching.{IsCellIn}
 use Rattle.area_laws.proofs.CellCuts.{no_sets, cell_sets}
 use Rattle.area_laws.proofs.Reaching.{cut_in}
-
--- ---- lists in order, one behind the other
-
-ascends_joined : {X : Type 0} (R : X → X → Type 0) (xs ys : List X) → Ascends R xs → Ascends R ys → ((x y : X) → Includes xs x → Includes ys y → R x y) → Ascends R (xs ++ ys)
-ascends_joined R [] ys a b h = b
-ascends_joined R (x ∷ xs) ys a b h = (all_of (R x) (xs ++ ys) (λ z j. behind z (includes_either xs ys z j)), ascends_joined R xs ys a.1 b (λ u v j k. h u v (inr j) k))
-  where
-    behind : (z : _) → Includes xs z ⊎ Includes ys z → R x z
-    behind z (inl j) = all_included (R x) xs z a.0 j
-    behind z (inr j) = h x z (inl refl) j
+use Rattle.spot_terms.proofs.Slots.{slots_rise}
+use Rattle.spot_terms.proofs.Ascents.{ascends_joined}
 
 -- ---- cells in order
 

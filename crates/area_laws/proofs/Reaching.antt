@@ -27,7 +27,7 @@ use Rattle.propagate.specs.Children.{IsInPlane, IsStepPoint}
 use Rattle.merge_sets.proofs.PartSlots.{none_outside}
 use Rattle.area_laws.specs.CellSets.{Cut}
 use Rattle.area_laws.specs.Reaching.{IsSetInBox, AreSetsInBox, IsStepSet, IsCellIn, HasFewCorners}
-use Rattle.area_laws.proofs.Boxes.{stays_in_box}
+use Rattle.base_sets.proofs.Boxes.{stays_in_box}
 use Rattle.area_laws.proofs.Corners.{IsSmallPlane, part_few}
 use Rattle.area_laws.proofs.Frames.{frame_few, frame_inside}
 use Rattle.area_laws.proofs.Parts.{some_part}

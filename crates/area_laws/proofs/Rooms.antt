@@ -19,14 +19,14 @@ use Rattle.spot_terms.proofs.Members.{in_map, all_in_map}
 use Rattle.spot_terms.proofs.Orders.{antisymmetric, at_most_trans, below_not_equal}
 use Rattle.convex_poly.proofs.CornerCounts.{IsDistinct, distinct_few}
 use Rattle.carve.specs.RowSums.{sum_rows}
-use Rattle.carve.proofs.RowCounts.{rows_are_boxes, slots_rise}
+use Rattle.carve.proofs.RowCounts.{rows_are_boxes}
 use Rattle.carve.proofs.RowPlaces.{columns_counted}
 use Rattle.area_laws.specs.CellSets.{Cut, sets_of, IsCellBefore, AreSetsBefore}
 use Rattle.area_laws.specs.Reaching.{IsCellIn}
 use Rattle.area_laws.specs.Rooms.{AreFewRuns, HasFewRuns}
 use Rattle.area_laws.proofs.CellCuts.{starts_ascend}
 use Rattle.area_laws.proofs.Reaching.{cut_in}
-use Rattle.area_laws.proofs.Stretches.{one_column}
+use Rattle.spot_terms.proofs.Slots.{slots_rise, one_slot}
 
 -- ---- different items
 
@@ -132,7 +132,7 @@ module _ (course : Course) (i : ℕ) (before : List SetValue) (count : ℕ) (Hit
       → IsFreeRun (IsRemoved count Hits course.g line) course.w d from to → (col ≡ d) × (row ≡ line) × (lo ≡ from)
   same_column row line col d lo from hi to e f g =
       let starts : lo ≡ from = ap (λ (q : Pt). q.y) e in
-      (one_column course.w col d from wide (subst (λ (z : ℤ). Within (slot_low course.w col) (slot_high course.w col) z) starts (in_column row col lo hi f)) (in_column line d from to g), ap (λ (q : Pt). q.x) e, starts)
+      (one_slot course.w col d from wide (subst (λ (z : ℤ). Within (slot_low course.w col) (slot_high course.w col) z) starts (in_column row col lo hi f)) (in_column line d from to g), ap (λ (q : Pt). q.x) e, starts)
 
   cuts_apart : (c d : Cut) → IsCut course i before count Hits c.0 c.1 → IsCut course i before count Hits d.0 d.1 → ComesBefore course i before count Hits c d → cut_name c ≡ cut_name d → ⊥
   cuts_apart c d cut dut order e = go order (same_column c.1.row d.1.row c.1.col d.1.col c.0 d.0 cut.hi dut.hi e cut.run dut.run)

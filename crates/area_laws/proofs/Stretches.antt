@@ -12,21 +12,8 @@ use Rattle.spot_terms.proofs.Orders.{at_most_trans, at_most_below, antisymmetric
 use Rattle.spot_terms.proofs.Quotients.{below_factor}
 use Rattle.spot_terms.proofs.Ring.{spread_left}
 use Rattle.carve.proofs.Founds.{low_le}
-
--- two columns that hold one place are one
-pub one_column : (w c d x : ℤ) → pos 0 <ℤ w → Within (slot_low w c) (slot_high w c) x → Within (slot_low w d) (slot_high w d) x → c ≡ d
-one_column w c d x p a e =
-    let cd : c <ℤ (d +ℤ pos 1) = below_factor c (d +ℤ pos 1) w p (omega (arith, ints, a.low, e.high, spread_left d (pos 1) w)) in
-    let dc : d <ℤ (c +ℤ pos 1) = below_factor d (c +ℤ pos 1) w p (omega (arith, ints, e.low, a.high, spread_left c (pos 1) w)) in
-    omega (arith, ints, cd, dc)
-
-ascends_back : {X : Type 0} (R : X → X → Type 0) (xs ys : List X) → Ascends R (xs ++ ys) → Ascends R ys
-ascends_back R [] ys a = a
-ascends_back R (x ∷ xs) ys a = ascends_back R xs ys a.1
-
-ascends_front : {X : Type 0} (R : X → X → Type 0) (xs ys : List X) → Ascends R (xs ++ ys) → Ascends R xs
-ascends_front R [] ys a = tt
-ascends_front R (x ∷ xs) ys a = (all_of (R x) xs (λ z j. all_included (R x) (xs ++ ys) z a.0 (includes_front xs ys z j)), ascends_front R xs ys a.1)
+use Rattle.spot_terms.proofs.Slots.{one_slot}
+use Rattle.spot_terms.proofs.Ascents.{ascends_back, ascends_front}
 
 -- the runs before the column's, the column's, and those behind them
 pub record IsStretch (w col : ℤ) (before runs behind : List (ℤ × ℤ)) : Type 0 where
@@ -62,7 +49,7 @@ module _ (Removed : ℤ → Type 0) (w : ℤ) (wide : pos 0 <ℤ w) (first last 
     where
       own : (r : ℤ × ℤ) → Within (slot_low w col) (slot_high w col) r.0 → IsFreeRunOf Removed w first last r → IsFreeRunOf Removed w col col r
       own r cell h =
-          let same : h.col ≡ col = one_column w h.col col r.0 wide (record { low = h.free_run.low; high = at_most_trans r.0 r.1 (slot_high w h.col) h.free_run.some h.free_run.high }) cell in
+          let same : h.col ≡ col = one_slot w h.col col r.0 wide (record { low = h.free_run.low; high = at_most_trans r.0 r.1 (slot_high w h.col) h.free_run.some h.free_run.high }) cell in
           record { col = col; among = record { low = reflexive col; high = reflexive col }; free_run = subst (λ (z : ℤ). IsFreeRun Removed w z r.0 r.1) same h.free_run }
 
       all : (c lo hi : ℤ) → c ≡ col → IsFreeRun Removed w c lo hi → Includes runs (lo, hi)

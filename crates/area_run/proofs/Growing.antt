@@ -6,7 +6,7 @@ use Rattle.spot_terms.specs.Courses.{Course, cells_at}
 use Rattle.spot_terms.specs.RowBoxes.{row_boxes}
 use Rattle.area_run.specs.Greatest.{IsGreatestBelow, IsRoomBelow, IsRoomOf, row_runs_at, rows_at}
 use Rattle.area_run.specs.declared.rooms.Rooms.{Rooms}
-use Rattle.area_run.proofs.LimitSteps.{last_or_before}
+use Rattle.spot_terms.proofs.Orders.{natural_trans, below_or_here}
 
 first_alone : (f : ℕ → ℕ) (m : ℕ) → m ≡ f 0 → IsGreatestBelow 1 f m
 first_alone f m e = record {
@@ -19,8 +19,8 @@ first_alone f m e = record {
 
 one_more : (f : ℕ → ℕ) (n m here new : ℕ) → IsGreatestBelow n f m → here ≡ f n → new ≡ max m here → IsGreatestBelow (n + 1) f new
 one_more f n m here new g e is = record {
-  bound = λ i h. elim (last_or_before n i h) [
-    | inl less ↦ up (f i) m new (g.bound i less) left
+  bound = λ i h. elim (below_or_here i n h) [
+    | inl less ↦ natural_trans (f i) m new (g.bound i less) left
     | inr same ↦ subst (λ (j : ℕ). f j ≤ new) (sym same) (omega (arith, e, right))
   ];
   reached = elim (either m here) [
@@ -34,9 +34,6 @@ one_more f n m here new g e is = record {
 
     right : here ≤ new
     right = subst (λ (z : ℕ). here ≤ z) (sym is) (le-max_right m here)
-
-    up : (a b c : ℕ) → a ≤ b → b ≤ c → a ≤ c
-    up a b c h k = omega (arith, h, k)
 
     further : (i : ℕ) → i < n → i < n + 1
     further i h = omega (arith, h)

@@ -7,15 +7,13 @@ use Rattle.spot_terms.specs.BaseSets.{Rect}
 use Rattle.spot_terms.specs.Courses.{Course, box_at, cells_of, cells_at}
 use Rattle.spot_terms.specs.RowBoxes.{row_boxes_in, row_boxes, cells_up_to, IsTooWideAt, IsAreaTooWide, HasTooManyBoxes}
 use Rattle.area_run.specs.Passed.{cells_before}
+use Rattle.spot_terms.proofs.Orders.{below_or_here}
 
 pub no_cells_yet : (course : Course) → 0 ≡ cells_before course 0
 no_cells_yet course = sym (sum_none (cells_at course))
 
 pub cells_next : (course : Course) (n total more : ℕ) → total ≡ cells_before course n → more ≡ total + cells_at course n → more ≡ cells_before course (n + 1)
 cells_next course n total more e f = let s = sum_next (cells_at course) n (n + 1) refl in omega (arith, e, f, s)
-
-pub last_or_before : (n k : ℕ) → k < n + 1 → (k < n) ⊎ (k ≡ n)
-last_or_before n k h = elim (cases_lt k n) [ inl l ↦ inl l | inr g ↦ inr (omega arith) ]
 
 module _ (course : Course) where
   not_wide : (n count : ℕ) → cells_at course n ≤ 65_536 → cells_up_to course n ≤ 524_288 → IsTooWideAt course n count → ⊥
@@ -24,7 +22,7 @@ module _ (course : Course) where
 
   pub narrow_next : (n : ℕ) → ((j count : ℕ) → j < n → IsTooWideAt course j count → ⊥) → cells_at course n ≤ 65_536 → cells_before course (n + 1) ≤ 524_288
       → (j count : ℕ) → j < n + 1 → IsTooWideAt course j count → ⊥
-  narrow_next n before h k j count l w = elim (last_or_before n j l) [
+  narrow_next n before h k j count l w = elim (below_or_here j n l) [
     | inl less ↦ before j count less w
     | inr same ↦ not_wide n count h k (subst (λ (i : ℕ). IsTooWideAt course i count) same w)
   ]
@@ -41,7 +39,7 @@ module _ (course : Course) where
 module _ (course : Course) (count : ℕ → ℕ) (range : ℕ → ℕ → ℤ × ℤ) where
   pub few_next : (n boxes : ℕ) → ((j : ℕ) → j < n → row_boxes course count range j ≤ 1_048_576) → boxes ≡ row_boxes course count range n → boxes ≤ 1_048_576
       → (j : ℕ) → j < n + 1 → row_boxes course count range j ≤ 1_048_576
-  few_next n boxes before e h j l = elim (last_or_before n j l) [
+  few_next n boxes before e h j l = elim (below_or_here j n l) [
     | inl less ↦ before j less
     | inr same ↦ subst (λ (i : ℕ). row_boxes course count range i ≤ 1_048_576) (sym same) (subst (λ (z : ℕ). z ≤ 1_048_576) e h)
   ]

@@ -14,17 +14,15 @@ use Rattle.carve.specs.RowSums.{sum_rows}
 use Rattle.merge_sets.proofs.BoxCells.{reached, steps_below}
 use Rattle.area_laws.specs.Rooms.{HasFewRuns, AreFewRuns}
 use Rattle.area_run.specs.Rows.{AreRunsOf, AreRowsIn, AreAllRowsIn}
+use Rattle.spot_terms.proofs.Orders.{plus_zero}
 
 -- ---- sums over rows
 
 shift : (a : ℤ) (n : ℕ) → (a +ℤ pos 1) +ℤ pos n ≡ a +ℤ pos (suc n)
 shift a n = omega (arith, ints)
 
-same_place : (a : ℤ) → a ≡ a +ℤ pos 0
-same_place a = omega (arith, ints)
-
 pub sum_last : (f : ℤ → ℕ) (a : ℤ) (n : ℕ) → sum_rows f a (suc n) ≡ sum_rows f a n + f (a +ℤ pos n)
-sum_last f a zero = let e : f a ≡ f (a +ℤ pos 0) = ap f (same_place a) in omega (arith, e)
+sum_last f a zero = let e : f a ≡ f (a +ℤ pos 0) = ap f (sym (plus_zero a)) in omega (arith, e)
 sum_last f a (suc n) =
     let e : sum_rows f (a +ℤ pos 1) (suc n) ≡ sum_rows f (a +ℤ pos 1) n + f ((a +ℤ pos 1) +ℤ pos n) = sum_last f (a +ℤ pos 1) n in
     let q : f ((a +ℤ pos 1) +ℤ pos n) ≡ f (a +ℤ pos (suc n)) = ap f (shift a n) in

@@ -37,9 +37,7 @@ use Rattle.area_run.specs.Rows.{AreRunsOf, AreAllRowsIn}
 use Rattle.area_run.specs.Stages.{Advances, HasCellRoom, HasRoom, HasSetsBefore, IsStage}
 use Rattle.area_run.specs.declared.plan.Plan.{Plan}
 use Rattle.area_run.proofs.Listing.{few_runs}
-
-pub positive : (w : ℤ) → Within (pos 100_000) (pos 100_000_000) w → pos 0 <ℤ w
-positive w h = omega (arith, ints, h.low)
+use Rattle.spot_terms.proofs.Slots.{some_width}
 
 -- what a table says of a cell that is read back
 pub merged_back : (t : Table) (c r col row : ℤ) (b : Option SetValue) → c ≡ col → r ≡ row → IsMergedIn t c r b → IsMergedIn t col row b
@@ -79,7 +77,7 @@ module _ (plan : Plan) (step : ℕ) (count : ℕ) (Hits : ℕ → Pt → Type 0)
 
   pub cell_runs : (col row : ℤ) (runs column : List (ℤ × ℤ)) → IsGrid plan.grid → IsCellIn course step col row → AreRunsOf course step count Hits range row runs → IsColumnOf plan.grid.w col runs column → AreCellRuns col row column
   cell_runs col row runs column grid cell are c =
-      let wide = positive plan.grid.w grid.w in
+      let wide = some_width plan.grid.w grid.w in
       let first : ℤ = slot plan.grid.w (box_at course step).xlo in
       let last : ℤ = slot plan.grid.w (box_at course step).xhi in
       let free : AreFreeRuns (RemovedIn row) plan.grid.w first last (c.before ++ (column ++ c.behind)) = subst (λ (z : List (ℤ × ℤ)). AreFreeRuns (RemovedIn row) plan.grid.w first last z) c.all are.free in
@@ -136,7 +134,7 @@ module _ (plan : Plan) (step : ℕ) (count : ℕ) (Hits : ℕ → Pt → Type 0)
 
   module _ (t : Table) (grid : IsGrid plan.grid) where
     law : (before : List SetValue) → IsFilledFrom course step before t → GoesFromCellToCell course step before count Hits t
-    law before filled = goes_from_cell_to_cell course step before count Hits t (positive plan.grid.w grid.w) (positive plan.grid.g grid.g) filled
+    law before filled = goes_from_cell_to_cell course step before count Hits t (some_width plan.grid.w grid.w) (some_width plan.grid.g grid.g) filled
 
     pub nothing_put : (col row : ℤ) (old new : List SetValue) → IsMergedIn t col row None → new ≡ old → Advances plan step count Hits range t col row old col (row +ℤ pos 1) new
     nothing_put col row old new none e before filled sets = subst (λ (z : List SetValue). AreSetsBefore course step before count Hits col (row +ℤ pos 1) z) (sym e) ((law before filled).empty col row old none sets)
@@ -165,7 +163,7 @@ module _ (plan : Plan) (step : ℕ) (count : ℕ) (Hits : ℕ → Pt → Type 0)
         → IsCellIn course step col row → HasSetsBefore plan step count Hits range t col start old → HasRoom plan step count Hits range room
         → Advances plan step count Hits range t col start old col row new → HasCellRoom plan step count Hits range col row new room
     cell_room col row start old new room free ends order all cell (before, filled, sets) has adv runs are =
-        let k = room_before course step before count Hits range (positive plan.grid.w grid.w) (positive plan.grid.g grid.g) col row new runs order (few_runs course step count Hits range free ends all) cell (adv before filled sets) are in
+        let k = room_before course step before count Hits range (some_width plan.grid.w grid.w) (some_width plan.grid.g grid.g) col row new runs order (few_runs course step count Hits range free ends all) cell (adv before filled sets) are in
         omega (arith, k, has)
 
     next_place : (z : ℤ) (j : ℕ) → (z +ℤ pos j) +ℤ pos 1 ≡ z +ℤ pos (j + 1)

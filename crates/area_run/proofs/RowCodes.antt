@@ -14,7 +14,7 @@ use Rattle.spot_terms.specs.declared.plain.Pt.{Pt}
 use Rattle.convex_poly.proofs.Wide.{small_back}
 use Rattle.base_sets.specs.Values.{AreBoxPlaces, IsBox, IsGrid, rect_of_box}
 use Rattle.base_sets.specs.declared.grid.OuterBox.{OuterBox}
-use Rattle.merge_sets.proofs.BoxCells.{counted_slots, slot_order}
+use Rattle.merge_sets.proofs.BoxCells.{counted_slots}
 use Rattle.merge_sets.specs.BoxSlots.{AreNear}
 use Rattle.merge_sets.specs.declared.places.BoxSlots.{BoxSlots}
 use Rattle.merge_sets.proofs.Steps.{near_slots}
@@ -31,6 +31,7 @@ use Rattle.area_run.specs.declared.plan.Plan.{Plan}
 use Rattle.area_run.specs.Stages.{Advances}
 use Rattle.area_run.proofs.Listing.{room_for_row, bound}
 use Rattle.area_run.proofs.Putting.{column_done}
+use Rattle.spot_terms.proofs.Slots.{slots_rise, some_width}
 
 abbrev pub read : ℤ → ℤ
 read z = to_z w64 (of_z w64 z)
@@ -69,11 +70,8 @@ module _ (plan : Plan) (step : ℕ) (count : ℕ) (Hits : ℕ → Pt → Type 0)
   pub rows_few : slots_met plan.grid.g b.ylo b.yhi ≤ 1_000_000_000
   rows_few = are_near.rows
 
-  positive : (w : ℤ) → Within (pos 100_000) (pos 100_000_000) w → pos 0 <ℤ w
-  positive w h = omega (arith, ints, h.low)
-
   pub among : (j : ℕ) → j < slots_met plan.grid.g b.ylo b.yhi → Within low (slot plan.grid.g b.yhi) (low +ℤ pos j)
-  among j l = counted_slots low (slot plan.grid.g b.yhi) j (slot_order plan.grid.g b.ylo b.yhi (positive plan.grid.g grid.g) reach.y) l
+  among j l = counted_slots low (slot plan.grid.g b.yhi) j (slots_rise plan.grid.g b.ylo b.yhi (some_width plan.grid.g grid.g) reach.y) l
 
   pub row_asked : (far j : ℕ) (row : ℤ) → row ≡ low +ℤ pos j → j < slots_met plan.grid.g b.ylo b.yhi → 35_000_000_000_000 ≤ far → IsRowNear far plan.grid.g row
   row_asked far j row at l h = subst (λ (z : ℤ). IsRowNear far plan.grid.g z) (sym at)
@@ -97,7 +95,7 @@ module _ (plan : Plan) (step : ℕ) (count : ℕ) (Hits : ℕ → Pt → Type 0)
 
   sum_is : sum_rows (bound (course_of plan) step count Hits range) (slot plan.grid.g (box_at (course_of plan) step).ylo) (slots_met plan.grid.g b.ylo b.yhi) ≡ row_boxes_in plan.grid.w plan.grid.g (rect_of_box b) count range
   sum_is = over_box (λ (r : Rect). sum_rows (runs_bound plan.grid.w plan.grid.g r count range) (slot plan.grid.g r.ylo) (slots_met plan.grid.g b.ylo b.yhi) ≡ row_boxes_in plan.grid.w plan.grid.g (rect_of_box b) count range)
-      (rows_are_boxes plan.grid.w plan.grid.g (rect_of_box b) count range (positive plan.grid.g grid.g) reach.y)
+      (rows_are_boxes plan.grid.w plan.grid.g (rect_of_box b) count range (some_width plan.grid.g grid.g) reach.y)
 
   pub row_room : (free runs : List (ℤ × ℤ)) (ends : List (ℕ × ℕ)) (n room : ℕ) (row : ℤ) → AreRowsIn (course_of plan) step count Hits range free ends n → row ≡ low +ℤ pos n → AreRunsOf (course_of plan) step count Hits range row runs
       → n < slots_met plan.grid.g b.ylo b.yhi → row_boxes_in plan.grid.w plan.grid.g (rect_of_box b) count range ≤ room → length free + length runs ≤ room
@@ -125,13 +123,13 @@ module _ (plan : Plan) (step : ℕ) (count : ℕ) (Hits : ℕ → Pt → Type 0)
   past_last lo hi n h e = omega (arith, ints, h, e)
 
   pub behind_rows : low +ℤ pos (slots_met plan.grid.g b.ylo b.yhi) ≡ slot plan.grid.g b.yhi +ℤ pos 1
-  behind_rows = let o = slot_order plan.grid.g b.ylo b.yhi (positive plan.grid.g grid.g) reach.y in past_last low (slot plan.grid.g b.yhi) _ o (count_is (slot plan.grid.g b.yhi) low o)
+  behind_rows = let o = slots_rise plan.grid.g b.ylo b.yhi (some_width plan.grid.g grid.g) reach.y in past_last low (slot plan.grid.g b.yhi) _ o (count_is (slot plan.grid.g b.yhi) low o)
 
   pub behind_columns : slot plan.grid.w b.xlo +ℤ pos (slots_met plan.grid.w b.xlo b.xhi) ≡ slot plan.grid.w b.xhi +ℤ pos 1
-  behind_columns = let o = slot_order plan.grid.w b.xlo b.xhi (positive plan.grid.w grid.w) reach.x in past_last (slot plan.grid.w b.xlo) (slot plan.grid.w b.xhi) _ o (count_is (slot plan.grid.w b.xhi) (slot plan.grid.w b.xlo) o)
+  behind_columns = let o = slots_rise plan.grid.w b.xlo b.xhi (some_width plan.grid.w grid.w) reach.x in past_last (slot plan.grid.w b.xlo) (slot plan.grid.w b.xhi) _ o (count_is (slot plan.grid.w b.xhi) (slot plan.grid.w b.xlo) o)
 
   pub among_columns : (i : ℕ) → i < slots_met plan.grid.w b.xlo b.xhi → Within (slot plan.grid.w b.xlo) (slot plan.grid.w b.xhi) (slot plan.grid.w b.xlo +ℤ pos i)
-  among_columns i l = counted_slots (slot plan.grid.w b.xlo) (slot plan.grid.w b.xhi) i (slot_order plan.grid.w b.xlo b.xhi (positive plan.grid.w grid.w) reach.x) l
+  among_columns i l = counted_slots (slot plan.grid.w b.xlo) (slot plan.grid.w b.xhi) i (slots_rise plan.grid.w b.xlo b.xhi (some_width plan.grid.w grid.w) reach.x) l
 
   pub left_small : nat_abs (slot plan.grid.w b.xlo) ≤ 400_000_000
   left_small = are_near.first_col

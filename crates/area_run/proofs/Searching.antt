@@ -13,9 +13,7 @@ use Rattle.spot_terms.specs.Whole.{Within}
 use Rattle.spot_terms.proofs.Places.{compare3}
 use Rattle.spot_terms.proofs.Ring.{spread_left}
 use Rattle.area_run.specs.Columns.{BeginInTurn, IsPartedAt, IsColumnOf}
-
-less_trans : (a b c : ℤ) → a <ℤ b → b <ℤ c → a <ℤ c
-less_trans a b c h k = omega (arith, ints, h, k)
+use Rattle.spot_terms.proofs.Orders.{below_trans}
 
 at_most_less : (a b c : ℤ) → a ≤ℤ b → b <ℤ c → a ≤ℤ c
 at_most_less a b c h k = omega (arith, ints, h, k)
@@ -27,7 +25,7 @@ module _ (runs : List (ℤ × ℤ)) (x : ℤ) (m : ℕ) (d : ℤ × ℤ) (turn :
   -- where run m begins before x, so do all up to it
   pub up_to : (get_or runs m d).0 <ℤ x → (i : ℕ) (r : ℤ × ℤ) → i < m + 1 → slice_get runs i ≡ Some r → r.0 <ℤ x
   up_to h i r k e = compare3 i m
-      (λ less. less_trans r.0 (get_or runs m d).0 x (turn i m r (get_or runs m d) less e (slice_get-get_or runs m d inside)) h)
+      (λ less. below_trans r.0 (get_or runs m d).0 x (turn i m r (get_or runs m d) less e (slice_get-get_or runs m d inside)) h)
       (λ same. subst (λ (z : ℤ × ℤ). z.0 <ℤ x) (here i r same e) h)
       (λ more. absurd (omega (arith, k, more)))
 

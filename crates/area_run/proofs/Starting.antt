@@ -13,12 +13,11 @@ use Rattle.spot_terms.specs.Whole.{Within}
 use Rattle.spot_terms.specs.declared.plain.Pt.{Pt}
 use Rattle.spot_terms.proofs.Hulls.{hull_included}
 use Rattle.spot_terms.proofs.OneHull.{one_hull}
-use Rattle.spot_terms.proofs.Orders.{reflexive}
+use Rattle.spot_terms.proofs.Orders.{reflexive, antisymmetric, below_true, at_least_false}
 use Rattle.convex_poly.specs.Runs.{IsSpanOf}
 use Rattle.base_sets.specs.Values.{AreBoxPlaces, IsBox, rect_of_box}
 use Rattle.base_sets.specs.declared.grid.OuterBox.{OuterBox}
 use Rattle.base_sets.proofs.Slots.{count_is}
-use Rattle.merge_sets.proofs.BoxCells.{slot_order}
 use Rattle.area_laws.proofs.Arguments.{IsSlotNear, slot_near}
 use Rattle.area_laws.proofs.Holding.{first_step}
 use Rattle.area_laws.proofs.Reaching.{first_in_box, step_set}
@@ -27,7 +26,8 @@ use Rattle.area_run.specs.Plans.{IsPlan, course_of}
 use Rattle.area_run.specs.Running.{CanRun, StandsAt}
 use Rattle.area_run.specs.declared.plan.Plan.{Plan}
 use Rattle.area_run.specs.declared.rooms.Rooms.{Rooms}
-use Rattle.area_run.proofs.Putting.{positive}
+use Rattle.spot_terms.proofs.Mixes.{positive_times}
+use Rattle.spot_terms.proofs.Slots.{slots_rise, some_width}
 
 -- ---- the set of the start
 
@@ -49,17 +49,8 @@ one_corner a b e = record {
 -- the hull of a place with two speeds is its segment
 pub segment_is : (p lo hi : ℤ) (corners : List Pt) → lo ≤ℤ hi → IsHullOf (at p lo ∷ at p hi ∷ []) corners → corners ≡ segment p lo hi
 segment_is p lo hi corners order h = by_lt_z lo hi
-    (λ less. rw (is_less lo hi less) (one_hull (at p lo ∷ at p hi ∷ []) corners (at p lo ∷ at p hi ∷ []) h (two_corners (at p lo) (at p hi) (inr (refl, less)))))
-    (λ not. rw (not_less lo hi not) (one_hull (at p lo ∷ at p hi ∷ []) corners (at p lo ∷ []) h (one_corner (at p lo) (at p hi) (ap (at p) (same lo hi order not)))))
-  where
-    is_less : (a b : ℤ) → a <ℤ b → int_lt a b ≡ true
-    is_less a b h = search (rules, h)
-
-    not_less : (a b : ℤ) → b ≤ℤ a → int_lt a b ≡ false
-    not_less a b h = search (rules, h)
-
-    same : (a b : ℤ) → a ≤ℤ b → b ≤ℤ a → b ≡ a
-    same a b k l = omega (arith, ints, k, l)
+    (λ less. rw (below_true lo hi less) (one_hull (at p lo ∷ at p hi ∷ []) corners (at p lo ∷ at p hi ∷ []) h (two_corners (at p lo) (at p hi) (inr (refl, less)))))
+    (λ not. rw (at_least_false lo hi not) (one_hull (at p lo ∷ at p hi ∷ []) corners (at p lo ∷ []) h (one_corner (at p lo) (at p hi) (ap (at p) (antisymmetric hi lo not order)))))
 
 -- ---- its row
 
@@ -91,18 +82,13 @@ both_ends Hit x low high a b c e f g h = (rw (sym e, sym f) h.0, rw (sym e, sym 
 -- ---- there is a cell
 
 some_slots : (w a b : ℤ) → pos 0 <ℤ w → a ≤ℤ b → 0 < slots_met w a b
-some_slots w a b wide h = let o = slot_order w a b wide h in subst (λ (n : ℕ). 0 < n) (count_is (slot w b) (slot w a) o) (omega (arith, ints, o))
-
-some_product : (a b : ℕ) → 0 < a → 0 < b → 0 < a * b
-some_product zero b h k = absurd (omega (arith, h))
-some_product (suc a) zero h k = absurd (omega (arith, k))
-some_product (suc a) (suc b) h k = omega arith
+some_slots w a b wide h = let o = slots_rise w a b wide h in subst (λ (n : ℕ). 0 < n) (count_is (slot w b) (slot w a) o) (omega (arith, ints, o))
 
 pub some_boxes : (plan : Plan) (b : OuterBox) (i most : ℕ) (count : ℕ → ℕ) (range : ℕ → ℕ → ℤ × ℤ) → IsPlan plan → rect_of_box b ≡ box_at (course_of plan) i → IsBox b
     → row_boxes (course_of plan) count range i ≤ most → 0 < most
 some_boxes plan b i most count range h e reach fits =
-    let cells : 0 < cells_of plan.grid.w plan.grid.g (rect_of_box b) = some_product (slots_met plan.grid.w b.xlo b.xhi) (slots_met plan.grid.g b.ylo b.yhi)
-    (some_slots plan.grid.w b.xlo b.xhi (positive plan.grid.w h.grid.w) reach.x) (some_slots plan.grid.g b.ylo b.yhi (positive plan.grid.g h.grid.g) reach.y) in
+    let cells : 0 < cells_of plan.grid.w plan.grid.g (rect_of_box b) = positive_times (slots_met plan.grid.w b.xlo b.xhi) (slots_met plan.grid.g b.ylo b.yhi)
+    (some_slots plan.grid.w b.xlo b.xhi (some_width plan.grid.w h.grid.w) reach.x) (some_slots plan.grid.g b.ylo b.yhi (some_width plan.grid.g h.grid.g) reach.y) in
     let there : 0 < cells_of plan.grid.w plan.grid.g (box_at (course_of plan) i) = subst (λ (r : Rect). 0 < cells_of plan.grid.w plan.grid.g r) e cells in
     through (cells_of plan.grid.w plan.grid.g (box_at (course_of plan) i)) _ most there fits
   where
@@ -138,6 +124,6 @@ module _ (plan : Plan) (last far : ℕ) (count : ℕ → ℕ) (Hits : ℕ → �
   stands_first upright steps b sets is e near first = record {
     within = omega arith;
     is_list = first;
-    holds = first_step (course_of plan) 0 count Hits Hits (positive plan.grid.g is.grid.g) (λ j p x y0 y y1 m below a c k n. upright j p x y0 y y1 a c k n) sets first;
+    holds = first_step (course_of plan) 0 count Hits Hits (some_width plan.grid.g is.grid.g) (λ j p x y0 y y1 m below a c k n. upright j p x y0 y y1 a c k n) sets first;
     ready = λ set j. step_set (course_of plan) 0 b set e near is.bounds.v (first_in_box (course_of plan) 900_000 is.start.box is.fits is.bounds.v.low count Hits sets first set j);
   }

@@ -22,14 +22,15 @@ use Rattle.spot_terms.specs.RowBoxes.{row_boxes}
 use Rattle.area_run.specs.Running.{AreRooms, CanRun, StandsAt}
 use Rattle.area_run.specs.Stages.{Advances, HasSetsBefore, IsStage}
 use Rattle.area_run.specs.declared.plan.Plan.{Plan}
-use Rattle.area_run.proofs.Putting.{positive}
+use Rattle.spot_terms.proofs.Orders.{next_is}
+use Rattle.spot_terms.proofs.Slots.{some_width}
 
 -- ---- the list of a step from what its cells gave
 
 module _ (plan : Plan) (step : ℕ) (count : ℕ) (Hits : ℕ → Pt → Type 0) (range : ℕ → ℤ × ℤ) (b : OuterBox) (free : List (ℤ × ℤ)) (ends : List (ℕ × ℕ)) (stage : IsStage plan step count Hits range b free ends)
     (t : Table) (before : List SetValue) (filled : IsFilledFrom (course_of plan) step before t) where
   goes : GoesFromCellToCell (course_of plan) step before count Hits t
-  goes = goes_from_cell_to_cell (course_of plan) step before count Hits t (positive plan.grid.w stage.plan_is.grid.w) (positive plan.grid.g stage.plan_is.grid.g) filled
+  goes = goes_from_cell_to_cell (course_of plan) step before count Hits t (some_width plan.grid.w stage.plan_is.grid.w) (some_width plan.grid.g stage.plan_is.grid.g) filled
 
   first_before : (old : List SetValue) → old ≡ [] → AreSetsBefore (course_of plan) step before count Hits (slot plan.grid.w b.xlo) (slot plan.grid.g b.ylo) old
   first_before old e = subst (λ (r : Rect). AreSetsBefore (course_of plan) step before count Hits (slot plan.grid.w r.xlo) (slot plan.grid.g r.ylo) old) (sym stage.exact)
@@ -51,9 +52,6 @@ module _ (plan : Plan) (step : ℕ) (count : ℕ) (Hits : ℕ → Pt → Type 0)
 
 -- ---- where the run stands next
 
-next_number : (i : ℕ) → suc i ≡ i + 1
-next_number i = omega arith
-
 module _ (plan : Plan) (last far : ℕ) (count : ℕ → ℕ) (Hits : ℕ → ℕ → Pt → Type 0) (range : ℕ → ℕ → ℤ × ℤ)
     (upright : (i p : ℕ) (x y0 y y1 : ℤ) → y0 ≤ℤ y → y ≤ℤ y1 → Hits i p (at x y0) → Hits i p (at x y1) → Hits i p (at x y)) where
   pub stands_next : (steps i : ℕ) (b : OuterBox) (free : List (ℤ × ℤ)) (ends : List (ℕ × ℕ)) (before after : List SetValue) → i < steps → IsStage plan (i + 1) (count (i + 1)) (Hits (i + 1)) (range (i + 1)) b free ends
@@ -61,8 +59,8 @@ module _ (plan : Plan) (last far : ℕ) (count : ℕ → ℕ) (Hits : ℕ → �
       → LeadsOn (course_of plan) (count (i + 1)) (Hits (i + 1)) (i + 1) before after → StandsAt plan last far count Hits range steps (i + 1) after
   stands_next steps i b free ends before after l stage h next leads = record {
     within = omega (arith, l);
-    is_list = subst (λ (j : ℕ). IsNextList (course_of plan) j before (count j) (Hits j) after → IsStepList (course_of plan) count Hits j after) (next_number i) (λ n. (before, h.is_list, n)) next;
-    holds = next_step (course_of plan) (i + 1) count Hits Hits (positive plan.grid.g stage.plan_is.grid.g) (λ j p x y0 y y1 m below a c k n. upright j p x y0 y y1 a c k n) i before after (omega arith)
+    is_list = subst (λ (j : ℕ). IsNextList (course_of plan) j before (count j) (Hits j) after → IsStepList (course_of plan) count Hits j after) (next_is i) (λ n. (before, h.is_list, n)) next;
+    holds = next_step (course_of plan) (i + 1) count Hits Hits (some_width plan.grid.g stage.plan_is.grid.g) (λ j p x y0 y y1 m below a c k n. upright j p x y0 y y1 a c k n) i before after (omega arith)
         h.holds leads;
     ready = λ set j. step_set (course_of plan) (i + 1) b set stage.exact stage.near stage.plan_is.bounds.v (next_in_box (course_of plan) (i + 1) before (count (i + 1)) (Hits (i + 1)) after stage.plan_is.ticks.0 next set j);
   }

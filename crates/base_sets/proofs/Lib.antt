@@ -1,4 +1,5 @@
 pub mod Axes
 pub mod Slots
+pub mod Boxes
 pub mod Places
 pub mod Passes

@@ -13,6 +13,7 @@ use Rattle.spot_terms.specs.Whole.{greatest, least}
 use Rattle.convex_poly.specs.Polygons.{IsPolygon, IsPosition}
 use Rattle.spot_terms.proofs.Supports.{supports_are}
 use Rattle.convex_poly.proofs.RunRows.{before_x}
+use Rattle.spot_terms.proofs.Orders.{first_alone}
 
 least_same : (z : ℤ) (xs : List ℤ) → AllByRecursion (λ x. z ≤ℤ x) xs → least z xs ≡ z
 least_same z [] h = refl
@@ -37,19 +38,13 @@ first_place vs us d e h = subst (λ (z : List Pt). to_z w64 (of_z w64 (get_or z 
 places_east : (vs : List Pt) → map (along (pos 1, pos 0)) vs ≡ map (λ d. d.x) vs
 places_east [] = refl
 places_east (v ∷ vs) =
-    let first : along (pos 1, pos 0) v ≡ v.x = plain v.x v.y in
+    let first : along (pos 1, pos 0) v ≡ v.x = first_alone v.x v.y in
     let rest : map (along (pos 1, pos 0)) vs ≡ map (λ d. d.x) vs = places_east vs in
     ap (λ (z : ℤ). z ∷ map (along (pos 1, pos 0)) vs) first ∙ ap (λ (zs : List ℤ). v.x ∷ zs) rest
-  where
-    plain : (x y : ℤ) → pos 1 *ℤ x +ℤ pos 0 *ℤ y ≡ x
-    plain x y = omega (arith, ints)
 
 support_east : (vs : List Pt) → support (pos 1, pos 0) vs ≡ greatest_place vs
 support_east [] = refl
-support_east (v ∷ vs) = ap (λ (z : ℤ). greatest z (map (along (pos 1, pos 0)) vs)) (plain v.x v.y) ∙ ap (λ (zs : List ℤ). greatest v.x zs) (places_east vs)
-  where
-    plain : (x y : ℤ) → pos 1 *ℤ x +ℤ pos 0 *ℤ y ≡ x
-    plain x y = omega (arith, ints)
+support_east (v ∷ vs) = ap (λ (z : ℤ). greatest z (map (along (pos 1, pos 0)) vs)) (first_alone v.x v.y) ∙ ap (λ (zs : List ℤ). greatest v.x zs) (places_east vs)
 
 pub last_place : (vs : List Pt) (r : ℤ) → IsSupport vs (pos 1) (pos 0) r → r ≡ greatest_place vs
 last_place vs r s = sym (supports_are.one (pos 1, pos 0) vs r s) ∙ support_east vs

@@ -10,21 +10,13 @@ use Rattle.spot_terms.specs.Grid.{slot_low, slot_high, IsFreeRun, AreInTurn, Are
 use Rattle.carve.specs.Taking.{AreRunsBefore, MayBegin, AreSpans, IsTaken, IsBorder, IsEndOfRun, IsPast, AreFew, AreFoundBefore, span_at}
 use Rattle.carve.specs.declared.runs.Span.{Span}
 use Rattle.carve.proofs.Sweeps.{none_yet, over, found}
-
-zero_sum : (first : ℤ) → first +ℤ pos 0 ≡ first
-zero_sum first = omega (arith, ints)
+use Rattle.spot_terms.proofs.Orders.{plus_zero, reflexive, below_equal_or_above}
 
 low_zero : (w first : ℤ) → slot_low w (first +ℤ pos 0) ≤ℤ slot_low w first
-low_zero w first = subst (λ (z : ℤ). slot_low w z ≤ℤ slot_low w first) (sym (zero_sum first)) (le_self (slot_low w first))
-  where
-    le_self : (z : ℤ) → z ≤ℤ z
-    le_self z = omega (arith, ints)
+low_zero w first = subst (λ (z : ℤ). slot_low w z ≤ℤ slot_low w first) (sym (plus_zero first)) (reflexive (slot_low w first))
 
 pub low_le : (w a b : ℤ) → pos 0 <ℤ w → a ≤ℤ b → slot_low w a ≤ℤ slot_low w b
 low_le w a b wide h = by_lt_z (slot_low w b) (slot_low w a) (λ less. absurd (let k : b <ℤ a = below_factor b a w wide less in omega (arith, ints))) (λ le. le)
-
-by_below : (a b : ℕ) → (a < b) ⊎ (a ≡ b) ⊎ (b < a)
-by_below a b = grind arith
 
 low_next : (w c : ℤ) → slot_low w (c +ℤ pos 1) ≡ slot_high w c +ℤ pos 1
 low_next w c = omega (arith, ints, spread_left c (pos 1) w)
@@ -144,7 +136,7 @@ module _ (spans : List Span) (w first end : ℤ) (wide : pos 0 <ℤ w) (are : Ar
 
       -- nothing of the run is taken
       free : (x : ℤ) → Within at (to -ℤ pos 1) x → IsTaken spans x → ⊥
-      free x k t = elim (by_below t.j i) [
+      free x k t = elim (below_equal_or_above t.j i) [
         | inl below ↦ (let e = h.passed t.j below before in let l = t.last in let m = k.low in omega (arith, ints))
         | inr (inl same) ↦ (let f : (span_at spans i).first ≤ℤ x = subst (λ (j : ℕ). (span_at spans j).first ≤ℤ x) same t.first in
             let b = ends.before_span (omega (arith, t.listed)) in let m = k.high in omega (arith, ints))

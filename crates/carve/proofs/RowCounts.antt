@@ -15,8 +15,9 @@ use Rattle.spot_terms.specs.Whole.{count_between, quotient_floor}
 use Rattle.spot_terms.proofs.Quotients.{product_le_at, next_product_gt_at, below_factor}
 use Rattle.spot_terms.proofs.Ring.{spread_left}
 use Rattle.carve.specs.RowSums.{sum_rows, RowsAreBoxes}
-use Rattle.spot_terms.proofs.Orders.{at_most_true, above_false, below_next}
+use Rattle.spot_terms.proofs.Orders.{at_most_true, above_false, below_next, at_most_below, at_most_trans}
 use Rattle.carve.proofs.Shared.{not_shared}
+use Rattle.spot_terms.proofs.Slots.{slots_rise}
 
 -- ---- sums over rows
 
@@ -90,13 +91,10 @@ slot_one : (g r z : ℤ) → pos 0 <ℤ g → (r *ℤ g) ≤ℤ z → z <ℤ ((r
 slot_one g r z wide low high =
     let a = product_le_at z g (slot g z) wide refl in
     let b = next_product_gt_at z g (slot g z) wide refl in
-    let x = below_factor (slot g z) (r +ℤ pos 1) g wide (less_of a high) in
-    let y = below_factor r (slot g z +ℤ pos 1) g wide (less_of low b) in
+    let x = below_factor (slot g z) (r +ℤ pos 1) g wide (at_most_below (slot g z *ℤ g) z ((r +ℤ pos 1) *ℤ g) a high) in
+    let y = below_factor r (slot g z +ℤ pos 1) g wide (at_most_below (r *ℤ g) z ((slot g z +ℤ pos 1) *ℤ g) low b) in
     even (slot g z) r x y
   where
-    less_of : {a b c : ℤ} → a ≤ℤ b → b <ℤ c → a <ℤ c
-    less_of h k = omega (arith, ints, h, k)
-
     even : (q r : ℤ) → q <ℤ (r +ℤ pos 1) → r <ℤ (q +ℤ pos 1) → q ≡ r
     even q r h k = omega (arith, ints, h, k)
 
@@ -125,15 +123,6 @@ piece_rows g ylo yhi s n wide order e = by_lt_z s.1 s.0
     (λ some. sum_alike (λ r. slots_shared g s (slot_low g r, slot_high g r)) (λ r. count_between (int_max (slot g s.0) r) (int_min (slot g s.1) r)) (slot g ylo) n (λ r. row_shared g s r wide some)
     ∙ (rows_counted (slot g s.0) (slot g s.1) (slot g ylo) (slot g yhi) n e ∙ sym (shared g s (ylo, yhi) some order)))
 
-pub slots_rise : (g a b : ℤ) → pos 0 <ℤ g → a ≤ℤ b → slot g a ≤ℤ slot g b
-slots_rise g a b wide h =
-    let low = product_le_at a g (slot g a) wide refl in
-    let high = next_product_gt_at b g (slot g b) wide refl in
-    below_next (slot g a) (slot g b) (below_factor (slot g a) (slot g b +ℤ pos 1) g wide (through low h high))
-  where
-    through : {a b c d : ℤ} → a ≤ℤ b → b ≤ℤ c → c <ℤ d → a <ℤ d
-    through h k l = omega (arith, ints, h, k, l)
-
 met_rows : (m n : ℤ) (c : ℕ) → m ≤ℤ n → Counts m n c → n +ℤ pos 1 ≡ m +ℤ pos c
 met_rows m n c h (inl z) = omega (arith, ints, h, z.0, z.1)
 met_rows m n c h (inr z) = absurd (omega (arith, ints, h, z.0))
@@ -155,12 +144,9 @@ shared_once g low high r wide order a b =
     let x = slots_rise g r.0 low wide a in
     let y = slots_rise g low high wide order in
     let z = slots_rise g high r.1 wide b in
-    let e : slots_shared g r (low, high) ≡ count_between (int_max (slot g r.0) (slot g low)) (int_min (slot g r.1) (slot g high)) = shared g r (low, high) (between a order b) order in
+    let e : slots_shared g r (low, high) ≡ count_between (int_max (slot g r.0) (slot g low)) (int_min (slot g r.1) (slot g high)) = shared g r (low, high) (at_most_trans r.0 low r.1 a (at_most_trans low high r.1 order b)) order in
     rw e (one (int_max (slot g r.0) (slot g low)) (int_min (slot g r.1) (slot g high)) _ (omega (arith, ints, clamps, x, y, z)) (counts _ _))
   where
-    between : {p q s t : ℤ} → p ≤ℤ q → q ≤ℤ s → s ≤ℤ t → p ≤ℤ t
-    between h k l = omega (arith, ints, h, k, l)
-
     one : (m n : ℤ) (c : ℕ) → m ≤ℤ n → Counts m n c → 1 ≤ c
     one m n c h (inl k) = omega (arith, ints, h, k.0, k.1)
     one m n c h (inr k) = absurd (omega (arith, ints, h, k.0))

@@ -12,7 +12,7 @@ use Rattle.spot_terms.proofs.Quotients.{product_le_at, next_product_gt_at}
 use Rattle.spot_terms.proofs.Ring.{spread_left}
 use Rattle.carve.specs.Taking.{IsTaken, TakesBetween}
 use Rattle.carve.specs.declared.runs.Span.{Span}
-use Rattle.carve.proofs.RowCounts.{slots_rise}
+use Rattle.spot_terms.proofs.Slots.{slots_rise}
 
 pub fits_wide : (w : ℤ) → Within (pos 100_000) (pos 100_000_000) w → FitsSigned w64 w
 fits_wide w h = let low = h.low in let high = h.high in omega (arith, ints)

@@ -9,6 +9,7 @@ use Rattle.spot_terms.proofs.Ring.{spread_left}
 use Rattle.spot_terms.proofs.Quotients.{below_factor}
 use Rattle.spot_terms.specs.Grid.{slot_low, slot_high, IsFreeRun, AreInTurn, IsInRun}
 use Rattle.carve.specs.Taking.{AreRunsBefore, MayBegin}
+use Rattle.spot_terms.proofs.Slots.{one_slot}
 
 all_push : {X : Type 0} (P : X → Type 0) (xs : List X) (x : X) → AllByRecursion P xs → P x → AllByRecursion P (xs ++ x ∷ [])
 all_push P [] x h p = (p, tt)
@@ -17,13 +18,6 @@ all_push P (y ∷ ys) x h p = (h.0, all_push P ys x h.1 p)
 ascending_push : (runs : List (ℤ × ℤ)) (run : ℤ × ℤ) → AreInTurn runs → AllByRecursion (λ r. r.1 <ℤ run.0) runs → AreInTurn (runs ++ run ∷ [])
 ascending_push [] run a b = (tt, tt)
 ascending_push (r ∷ runs) run a b = (all_push (λ later. r.1 <ℤ later.0) runs run a.0 b.0, ascending_push runs run a.1 b.1)
-
--- two columns that hold one place are one
-one_column : (w c d x : ℤ) → pos 0 <ℤ w → (c *ℤ w) ≤ℤ x → x ≤ℤ (c *ℤ w +ℤ w -ℤ pos 1) → (d *ℤ w) ≤ℤ x → x ≤ℤ (d *ℤ w +ℤ w -ℤ pos 1) → c ≡ d
-one_column w c d x p a b e f =
-    let cd : c <ℤ (d +ℤ pos 1) = below_factor c (d +ℤ pos 1) w p (omega (arith, ints, spread_left d (pos 1) w)) in
-    let dc : d <ℤ (c +ℤ pos 1) = below_factor d (c +ℤ pos 1) w p (omega (arith, ints, spread_left c (pos 1) w)) in
-    omega (arith, ints)
 
 module _ (removed : ℤ → Type 0) (w first : ℤ) (wide : pos 0 <ℤ w) where
   -- nothing is found yet
@@ -66,7 +60,7 @@ module _ (removed : ℤ → Type 0) (w first : ℤ) (wide : pos 0 <ℤ w) where
 
       left_end : MayBegin removed w at → (at ≡ slot_low w col) ⊎ removed (at -ℤ pos 1)
       left_end (inl r) = inr r
-      left_end (inr (c, e)) = inl (e ∙ ap (λ (z : ℤ). z *ℤ w) (one_column w c col at wide (omega (arith, ints)) (omega (arith, ints)) low (omega (arith, ints))))
+      left_end (inr (c, e)) = inl (e ∙ ap (λ (z : ℤ). z *ℤ w) (one_slot w c col at wide (record { low = omega (arith, ints); high = omega (arith, ints) }) (record { low = low; high = omega (arith, ints) })))
 
       right_end : (to ≡ slot_high w col +ℤ pos 1) ⊎ removed to → (to -ℤ pos 1 ≡ slot_high w col) ⊎ removed (to -ℤ pos 1 +ℤ pos 1)
       right_end (inl e) = inl (omega (arith, ints))
@@ -82,7 +76,7 @@ module _ (removed : ℤ → Type 0) (w first : ℤ) (wide : pos 0 <ℤ w) where
       same col' lo hi f a b = cc_pair (starts (f.left)) (by_lt_z hi (to -ℤ pos 1) (λ before. absurd (too_short before f.right)) (λ after. by_lt_z (to -ℤ pos 1) hi (λ past. absurd (too_long past behind)) (λ rest. omega (arith, ints))))
         where
           col_same : col' ≡ col
-          col_same = one_column w col' col lo wide f.low (omega (arith, ints, f.some, f.high)) (omega (arith, ints)) (omega (arith, ints))
+          col_same = one_slot w col' col lo wide (record { low = f.low; high = omega (arith, ints, f.some, f.high) }) (record { low = omega (arith, ints); high = omega (arith, ints) })
 
           high_same : slot_high w col' ≡ slot_high w col
           high_same = ap (λ (z : ℤ). slot_high w z) col_same

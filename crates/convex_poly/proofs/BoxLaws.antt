@@ -11,7 +11,7 @@ use Rattle.spot_terms.specs.Hull.{dot, InHull, IsSupport}
 use Rattle.spot_terms.specs.Lists.{Includes}
 use Rattle.spot_terms.proofs.ListLemmas.{includes_at, includes_taken}
 use Rattle.spot_terms.proofs.Hulls.{support_bounds_whole}
-use Rattle.spot_terms.proofs.Orders.{at_most_or_at_least, at_most_trans}
+use Rattle.spot_terms.proofs.Orders.{at_most_or_at_least, at_most_trans, lesser_is, greater_is}
 use Rattle.convex_poly.specs.declared.boxes.BoundingBox.{BoundingBox}
 use Rattle.convex_poly.specs.Boxes.{IsAbove, IsBoxOf, IsHighest, IsInBox, IsLowest, LieBeside}
 
@@ -26,32 +26,26 @@ pub record IsHighestSoFar (coordinate : Pt → ℤ) (points : List Pt) (i : ℕ)
   pub each : (p : Pt) → Includes (take i points) p → coordinate p ≤ℤ n
   pub one : (p : Pt) × Includes points p × (coordinate p ≡ n)
 
-min_of : (g r m : ℤ) → m ≡ int_min g r → (m ≤ℤ g) × (m ≤ℤ r) × ((m ≡ g) ⊎ (m ≡ r))
-min_of g r m e = grind (arith, ints)
-
-max_of : (g r m : ℤ) → m ≡ int_max g r → (g ≤ℤ m) × (r ≤ℤ m) × ((m ≡ g) ⊎ (m ≡ r))
-max_of g r m e = grind (arith, ints)
-
 -- one more point
 lowest_more : (coordinate : Pt → ℤ) (points : List Pt) (i : ℕ) (d : Pt) (before now : ℤ) → i < length points → IsLowestSoFar coordinate points i before → now ≡ int_min before (coordinate (slice_index_or points i d)) → IsLowestSoFar coordinate points (i + 1) now
-lowest_more coordinate points i d before now h k e = let m = min_of before (coordinate (slice_index_or points i d)) now e in record {
+lowest_more coordinate points i d before now h k e = let m = lesser_is before (coordinate (slice_index_or points i d)) now e in record {
   each = λ p j. elim (includes_taken points i d p h j) [
     | inl front ↦ at_most_trans now before (coordinate p) m.0 (k.each p front)
-    | inr same ↦ subst (λ (z : Pt). now ≤ℤ coordinate z) (sym same) m.1
+    | inr same ↦ subst (λ (z : Pt). now ≤ℤ coordinate z) (sym same) m.1.0
   ];
-  one = elim m.2 [
+  one = elim m.1.1 [
     | inl old ↦ (k.one.0, k.one.1, k.one.2 ∙ sym old)
     | inr new ↦ (slice_index_or points i d, includes_at points i d h, sym new)
   ];
 }
 
 highest_more : (coordinate : Pt → ℤ) (points : List Pt) (i : ℕ) (d : Pt) (before now : ℤ) → i < length points → IsHighestSoFar coordinate points i before → now ≡ int_max before (coordinate (slice_index_or points i d)) → IsHighestSoFar coordinate points (i + 1) now
-highest_more coordinate points i d before now h k e = let m = max_of before (coordinate (slice_index_or points i d)) now e in record {
+highest_more coordinate points i d before now h k e = let m = greater_is before (coordinate (slice_index_or points i d)) now e in record {
   each = λ p j. elim (includes_taken points i d p h j) [
     | inl front ↦ at_most_trans (coordinate p) before now (k.each p front) m.0
-    | inr same ↦ subst (λ (z : Pt). coordinate z ≤ℤ now) (sym same) m.1
+    | inr same ↦ subst (λ (z : Pt). coordinate z ≤ℤ now) (sym same) m.1.0
   ];
-  one = elim m.2 [
+  one = elim m.1.1 [
     | inl old ↦ (k.one.0, k.one.1, k.one.2 ∙ sym old)
     | inr new ↦ (slice_index_or points i d, includes_at points i d h, sym new)
   ];

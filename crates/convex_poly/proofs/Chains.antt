@@ -9,7 +9,7 @@ use Rattle.spot_terms.specs.declared.plain.Pt.{Pt}
 use Rattle.convex_poly.specs.Turns.{cross, TurnsLeft}
 use Rattle.convex_poly.specs.Chains.{key, Rising}
 use Rattle.spot_terms.proofs.Ring.{ring, Exp, var, num, ◌⊕◌, ◌⊖◌, ◌⊗◌}
-use Rattle.spot_terms.proofs.Orders.{below_trans, difference_not_negative, difference_positive, positive_not_negative, product_positive, sum_of_positives, weaken, zero_not_negative, product_not_negative, below_or_at_least}
+use Rattle.spot_terms.proofs.Orders.{below_trans, difference_not_negative, difference_positive, positive_not_negative, product_positive, sum_of_positives, weaken, zero_not_negative, product_not_negative, below_or_at_least, opposite_twice}
 use Rattle.convex_poly.proofs.Crosses.{cross_exp, cross_turn, cross_first, cross_second}
 
 -- ---- turns along a chain
@@ -158,11 +158,8 @@ module _ (kx ky : ℤ) (there back vs : List Pt) (l : Loop kx ky there back vs) 
       (lt_turn (get_or back j d) (get_or back k d) (get_or there i d)
       (across (pos 0 -ℤ kx) (pos 0 -ℤ ky) back there d l.back_turns l.there_turns l.back_rises rises_again l.back_two (length back - 1) (length there - 1) (omega (arith, l.back_two)) (omega (arith, l.there_two)) foot top j k i jk kn i0 (omega (arith, l.there_two))))
     where
-      twice : (z : ℤ) → z ≡ pos 0 -ℤ (pos 0 -ℤ z)
-      twice z = omega (arith, ints)
-
       rises_again : Rising (pos 0 -ℤ (pos 0 -ℤ kx)) (pos 0 -ℤ (pos 0 -ℤ ky)) there
-      rises_again = subst (λ z. Rising z (pos 0 -ℤ (pos 0 -ℤ ky)) there) (twice kx) (subst (λ z. Rising kx z there) (twice ky) l.there_rises)
+      rises_again = subst (λ z. Rising z (pos 0 -ℤ (pos 0 -ℤ ky)) there) (sym (opposite_twice kx)) (subst (λ z. Rising kx z there) (sym (opposite_twice ky)) l.there_rises)
 
   -- one there, two of the inner points back
   one_two : (i j k : ℕ) → i < length there → 0 < j → j < k → k + 1 < length back → pos 0 <ℤ cross (get_or there i d) (get_or back j d) (get_or back k d)

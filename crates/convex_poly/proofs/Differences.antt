@@ -8,6 +8,7 @@ use Rattle.spot_terms.specs.Hull.{weighted}
 use Rattle.convex_poly.specs.Pivots.{each_minus, differences}
 use Rattle.spot_terms.proofs.Ring.{ring, var, ◌⊕◌, ◌⊖◌, ◌⊗◌}
 use Rattle.spot_terms.proofs.Mixes.{mix_none, mix_add, mix_scale, mix_more, mix_first, mix_to}
+use Rattle.spot_terms.proofs.Orders.{sum_behind}
 
 -- ---- one point against a list
 
@@ -155,12 +156,9 @@ parts (w ∷ ws) (u ∷ us) vs = let k = parts ws us vs in record {
   front = mix_add (u ∷ us) (w * 1) k.w1 (pos w *ℤ u.x) (pos w *ℤ u.y) k.x1 k.y1 (mix_scale (u ∷ us) w 1 u.x u.y (mix_first u us)) (mix_more u us k.w1 k.x1 k.y1 k.front);
   rest = k.rest;
   w = omega (arith, k.w);
-  x = shift _ _ _ _ k.x;
-  y = shift _ _ _ _ k.y;
+  x = sym (sum_behind _ _ _ _ (sym k.x));
+  y = sym (sum_behind _ _ _ _ (sym k.y));
 }
-  where
-    shift : (a s t r : ℤ) → s ≡ t +ℤ r → a +ℤ s ≡ (a +ℤ t) +ℤ r
-    shift a s t r h = omega (arith, ints)
 
 no_points : (ws : List ℕ) → total ws [] ≡ 0
 no_points [] = refl

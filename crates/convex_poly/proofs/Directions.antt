@@ -15,6 +15,7 @@ use Rattle.convex_poly.proofs.Chains.{positive_part}
 use Rattle.convex_poly.proofs.CornerCounts.{IsDistinct, corners_distinct, distinct_few}
 use Rattle.convex_poly.proofs.Edges.{way_of, HasWayOf, one_way_one_start, edges-length}
 use Rattle.convex_poly.proofs.Leans.{turn_by, along_by, not_none}
+use Rattle.spot_terms.proofs.Ring.{turn}
 
 -- u points where w points
 pub record PointsAlong (u w : Pt) : Type 0 where
@@ -28,7 +29,7 @@ same_direction w e f h k = record {
       (turn_by w (way_of e) (way_of f) ∙ ap (λ z. (inner_product w (way_of e) *ℤ z) -ℤ (turn_of w (way_of e) *ℤ inner_product w (way_of f))) k.level
       ∙ ap (λ z. (inner_product w (way_of e) *ℤ pos 0) -ℤ (z *ℤ inner_product w (way_of f))) h.level ∙ both_none (inner_product w (way_of e)) (inner_product w (way_of f)));
   ahead = positive_part (inner_product (way_of e) (way_of f)) (inner_product w w) (not_none w (way_of e) (inr (h.level, h.ahead)))
-      (subst (λ z. pos 0 <ℤ z) (turned (inner_product w w) (inner_product (way_of e) (way_of f)))
+      (subst (λ z. pos 0 <ℤ z) (turn (inner_product w w) (inner_product (way_of e) (way_of f)))
       (subst (λ z. pos 0 <ℤ z) (sym (along_by w (way_of e) (way_of f)
       ∙ ap (λ z. (inner_product w (way_of e) *ℤ inner_product w (way_of f)) +ℤ (z *ℤ turn_of w (way_of f))) h.level ∙ last_none (inner_product w (way_of e) *ℤ inner_product w (way_of f)) (turn_of w (way_of f))))
       (product_positive (inner_product w (way_of e)) (inner_product w (way_of f)) h.ahead k.ahead)));
@@ -39,9 +40,6 @@ same_direction w e f h k = record {
 
     last_none : (p t : ℤ) → p +ℤ (pos 0 *ℤ t) ≡ p
     last_none p t = omega (arith, ints)
-
-    turned : (a b : ℤ) → a *ℤ b ≡ b *ℤ a
-    turned a b = omega (arith, ints)
 
 -- ---- the starts of the edges differ
 

@@ -10,7 +10,7 @@ use Rattle.spot_terms.specs.Lists.{Includes}
 use Rattle.spot_terms.proofs.ListLemmas.{all_included}
 use Rattle.spot_terms.proofs.Products.{square_not_negative}
 use Rattle.spot_terms.proofs.Ring.{ring, Exp, var, num, ◌⊕◌, ◌⊖◌, ◌⊗◌}
-use Rattle.spot_terms.proofs.Orders.{sum_not_negative, zero_not_positive, zero_times, product_not_negative, product_positive}
+use Rattle.spot_terms.proofs.Orders.{sum_not_negative, zero_not_positive, zero_times, product_not_negative, product_positive, antisymmetric}
 use Rattle.convex_poly.specs.Vectors.{minus, turn_of, inner_product}
 use Rattle.convex_poly.specs.Turns.{cross}
 use Rattle.convex_poly.proofs.Corners.{IsBeside, edge_left}
@@ -93,11 +93,8 @@ module _ (a b c d : Pt) (way : HasWayOf (a, b) (c, d)) (first : pos 0 ≤ℤ cro
       (λ up. absurd (clash (inner_product (minus b a) (minus b a) *ℤ cross c d a) (inner_product (minus b a) (minus d c) *ℤ cross a b c) (turn_of (minus b a) (minus d c) *ℤ inner_product (minus b a) (minus a c))
       (areas a b c d) (product_not_negative (inner_product (minus b a) (minus b a)) (cross c d a) squares second) (product_positive (inner_product (minus b a) (minus d c)) (cross a b c) way.ahead up)
       (ap (λ z. z *ℤ inner_product (minus b a) (minus a c)) way.level ∙ zero_times (inner_product (minus b a) (minus a c)))))
-      (λ down. pin (cross a b c) first down)
+      (λ down. antisymmetric (cross a b c) (pos 0) down first)
     where
-      pin : (z : ℤ) → pos 0 ≤ℤ z → z ≤ℤ pos 0 → z ≡ pos 0
-      pin z h k = omega (arith, ints)
-
       squares : pos 0 ≤ℤ inner_product (minus b a) (minus b a)
       squares = sum_not_negative ((b.x -ℤ a.x) *ℤ (b.x -ℤ a.x)) ((b.y -ℤ a.y) *ℤ (b.y -ℤ a.y)) (square_not_negative (b.x -ℤ a.x)) (square_not_negative (b.y -ℤ a.y))
 

@@ -8,6 +8,7 @@ use Rattle.spot_terms.specs.Hull.{Before, IsHullOf}
 use Rattle.spot_terms.specs.Lists.{Includes}
 use Rattle.spot_terms.proofs.Hulls.{hull_included}
 use Rattle.spot_terms.proofs.OneHull.{same_pt}
+use Rattle.spot_terms.proofs.Orders.{antisymmetric}
 
 -- two corners, the first of which comes before the other
 pub two_corners : (a b : Pt) → Before a b → (p q : Pt) → (p ≡ a) ⊎ (p ≡ b) → (q ≡ a) ⊎ (q ≡ b) → ((a ≡ p) ⊎ (a ≡ q)) → ((b ≡ p) ⊎ (b ≡ q)) → IsHullOf (p ∷ q ∷ []) (a ∷ b ∷ [])
@@ -25,11 +26,8 @@ two_corners a b h p q is_p is_q a_is b_is = record {
     corner c (inl e) = inl e
     corner c (inr e) = inr (inl e)
 
-even : (z w : ℤ) → w ≤ℤ z → z ≤ℤ w → z ≡ w
-even z w h k = omega (arith, ints)
-
 pin : (z w : ℤ) → (z <ℤ w → ⊥) → (w <ℤ z → ⊥) → z ≡ w
-pin z w h k = by_lt_z z w (λ l. absurd (h l)) (λ not_less. by_lt_z w z (λ l. absurd (k l)) (λ not_more. even z w not_less not_more))
+pin z w h k = by_lt_z z w (λ l. absurd (h l)) (λ not_less. by_lt_z w z (λ l. absurd (k l)) (λ not_more. antisymmetric z w not_more not_less))
 
 -- of two points neither comes before the other
 pub same_point : (p q : Pt) → (Before p q → ⊥) → (Before q p → ⊥) → q ≡ p

@@ -17,7 +17,7 @@ use Rattle.convex_poly.specs.Polygons.{IsPosition, IsPolygon}
 use Rattle.convex_poly.proofs.Orders.{permuted_in, permuted_all}
 use Rattle.convex_poly.specs.Chains.{key, HasMeetingEnds, Rising, Toward, IsChain, IsOrdered, IsSideOf, between_ends}
 use Rattle.spot_terms.proofs.ListLemmas.{all_included, all_of, includes_at, includes_back, includes_front, all_append}
-use Rattle.spot_terms.proofs.Orders.{asymmetric, irreflexive, below_or_at_least}
+use Rattle.spot_terms.proofs.Orders.{asymmetric, irreflexive, below_or_at_least, antisymmetric}
 use Rattle.spot_terms.proofs.Places.{all_at, place_of}
 use Rattle.convex_poly.proofs.Chains.{Loop, loop_turns, neg_key, key_neg}
 use Rattle.convex_poly.proofs.ChainSteps.{chains_hull}
@@ -43,11 +43,8 @@ key_before a b h k l =
     by_lt_z a.x b.x (λ less. inl less)
     (λ back. by_lt_z b.x a.x
     (λ more. absurd (asymmetric (key far (pos 1) a) (key far (pos 1) b) l (key_up b.x b.y a.x a.y k.y h.y more)))
-    (λ level. let e : a.x ≡ b.x = pin a.x b.x back level in inr (e, by_lt_z a.y b.y (λ less. less) (λ high. absurd (above a.x a.y b.x b.y e l high)))))
+    (λ level. let e : a.x ≡ b.x = antisymmetric a.x b.x level back in inr (e, by_lt_z a.y b.y (λ less. less) (λ high. absurd (above a.x a.y b.x b.y e l high)))))
   where
-    pin : (z w : ℤ) → w ≤ℤ z → z ≤ℤ w → z ≡ w
-    pin z w h k = omega (arith, ints)
-
     above : (ax ay bx by : ℤ) → ax ≡ bx → ((far *ℤ ax) +ℤ (pos 1 *ℤ ay)) <ℤ ((far *ℤ bx) +ℤ (pos 1 *ℤ by)) → by ≤ℤ ay → ⊥
     above ax ay bx by e l h = omega (arith, ints)
 

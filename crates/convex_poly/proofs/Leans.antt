@@ -10,7 +10,7 @@ use Rattle.spot_terms.proofs.Ring.{ring, Exp, var, num, ◌⊕◌, ◌⊖◌, �
 use Rattle.convex_poly.specs.Pivots.{IsLeftwards, AreLeftwards, LeansTo}
 use Rattle.convex_poly.specs.Vectors.{minus, turn_of, inner_product}
 use Rattle.spot_terms.proofs.ListLemmas.{includes_at}
-use Rattle.spot_terms.proofs.Orders.{below_or_here, equal_of_difference, negative_clash, not_positive_of_opposite, opposite_not_negative, opposite_of_negative, opposite_times, opposites_times, sum_not_negative, times_opposite, times_zero, zero_not_negative, zero_not_positive, zero_times, product_not_negative, factor_not_negative, positive_not_negative, product_positive}
+use Rattle.spot_terms.proofs.Orders.{below_or_here, equal_of_difference, negative_clash, not_positive_of_opposite, opposite_not_negative, opposite_of_negative, opposite_times, opposites_times, sum_not_negative, times_opposite, times_zero, zero_not_negative, zero_not_positive, zero_times, product_not_negative, factor_not_negative, positive_not_negative, product_positive, antisymmetric}
 use Rattle.spot_terms.proofs.Places.{same_index, place_of}
 use Rattle.convex_poly.proofs.Pivots.{turn_back, turn_ok}
 
@@ -135,10 +135,7 @@ module _ (v c s : Pt) (lc : IsLeftwards v c) (ls : IsLeftwards v s) (flat : turn
 
 pub leans_on : (v c s : Pt) → IsLeftwards v c → IsLeftwards v s → pos 0 ≤ℤ turn_of c s → IsLeftwards c s
 leans_on v c s lc ls h = by_lt_z (pos 0) (turn_of c s) (λ k. inl k)
-    (λ k. let e : turn_of c s ≡ pos 0 = pin (turn_of c s) h k in inr (e, by_lt_z (pos 0) (inner_product c s) (λ l. l) (λ l. absurd (against v c s lc ls e l lc ls))))
-  where
-    pin : (z : ℤ) → pos 0 ≤ℤ z → z ≤ℤ pos 0 → z ≡ pos 0
-    pin z h k = omega (arith, ints)
+    (λ k. let e : turn_of c s ≡ pos 0 = antisymmetric (turn_of c s) (pos 0) k h in inr (e, by_lt_z (pos 0) (inner_product c s) (λ l. l) (λ l. absurd (against v c s lc ls e l lc ls))))
 
 -- ---- the loops
 

@@ -13,7 +13,7 @@ use Rattle.spot_terms.proofs.Mixes.{mix_more, mix_to, mix_included}
 use Rattle.convex_poly.proofs.Ways.{Meets0, Rel, turns_rel, flat_rel, meets_of, zero_part, rel_line}
 use Rattle.spot_terms.proofs.Products.{square_not_negative}
 use Rattle.spot_terms.specs.Hull.{weighted}
-use Rattle.spot_terms.proofs.Orders.{opposite_not_negative, opposite_of_negative, sum_not_negative, zero_not_negative, zero_not_positive, is_zero, positive_not_negative, times_not_negative}
+use Rattle.spot_terms.proofs.Orders.{opposite_not_negative, opposite_of_negative, sum_not_negative, zero_not_negative, zero_not_positive, is_zero, positive_not_negative, times_not_negative, antisymmetric, sum_swap}
 
 -- ---- with a pivot, 0 is outside
 
@@ -86,13 +86,10 @@ pivot_apart vs p all m =
 against : (vs : List Pt) (p r : Pt) → Includes vs p → Includes vs r → turn_of p r ≡ pos 0 → inner_product p r ≤ℤ pos 0 → Meets0 vs
 against vs p r ip ir z h =
     elim (is_zero (inner_product p p)) [
-      | inl o ↦ record { n = 1; some = omega arith; mix = mix_to vs _ _ _ _ _ _ refl (zero_part p.x p.y o) (zero_part p.y p.x (other (p.x *ℤ p.x) (p.y *ℤ p.y) o)) (mix_included vs p ip) }
+      | inl o ↦ record { n = 1; some = omega arith; mix = mix_to vs _ _ _ _ _ _ refl (zero_part p.x p.y o) (zero_part p.y p.x (sum_swap (p.y *ℤ p.y) (p.x *ℤ p.x) ∙ o)) (mix_included vs p ip) }
       | inr nz ↦ go nz
     ]
   where
-    other : (s t : ℤ) → s +ℤ t ≡ pos 0 → t +ℤ s ≡ pos 0
-    other s t h = omega (arith, ints)
-
     flipped : Rel p r r (pos 0 -ℤ inner_product p r) (pos 0 -ℤ (pos 0 -ℤ inner_product p p)) (pos 0 -ℤ pos 0)
     flipped = let e = flat_rel p r r z in record { x = rel_line (inner_product p r) (pos 0 -ℤ inner_product p p) (pos 0) p.x r.x r.x e.x; y = rel_line (inner_product p r) (pos 0 -ℤ inner_product p p) (pos 0) p.y r.y r.y e.y }
 
@@ -132,11 +129,8 @@ place : (p r : Pt) → IsLeftwards p r ⊎ NotLeft p r
 place p r =
     by_lt_z (pos 0) (turn_of p r) (λ h. inl (inl h))
     (λ h. by_lt_z (turn_of p r) (pos 0) (λ k. inr (record { way = inl k }))
-    (λ k. let e : turn_of p r ≡ pos 0 = pin (turn_of p r) h k in
+    (λ k. let e : turn_of p r ≡ pos 0 = antisymmetric (turn_of p r) (pos 0) h k in
     by_lt_z (pos 0) (inner_product p r) (λ m. inl (inr (e, m))) (λ m. inr (record { way = inr (e, m) }))))
-  where
-    pin : (z : ℤ) → z ≤ℤ pos 0 → pos 0 ≤ℤ z → z ≡ pos 0
-    pin z h k = omega (arith, ints)
 
 -- all of the list are leftwards of r, or one isn't
 scan : (r : Pt) (vs : List Pt) → ((s : Pt) → Includes vs s → IsLeftwards r s) ⊎ ((s : Pt) × (Includes vs s × NotLeft r s))

@@ -7,8 +7,8 @@ use Rattle.spot_terms.specs.declared.plain.Pt.{Pt}
 use Rattle.spot_terms.specs.Hull.{weighted}
 use Rattle.spot_terms.specs.Lists.{Includes}
 use Rattle.spot_terms.proofs.Ring.{ring, var, num, ◌⊕◌, ◌⊖◌, ◌⊗◌}
-use Rattle.spot_terms.proofs.Mixes.{total, mix_more, mix_to, mix_included}
-use Rattle.spot_terms.proofs.Orders.{opposite_positive, opposite_times, opposites_times, zero_of_opposite, product_not_negative, is_zero, positive_not_negative, product_positive}
+use Rattle.spot_terms.proofs.Mixes.{total, mix_more, mix_to, mix_included, no_total}
+use Rattle.spot_terms.proofs.Orders.{opposite_positive, opposite_times, opposites_times, zero_of_opposite, product_not_negative, is_zero, positive_not_negative, product_positive, opposite_clash, sum_swap}
 use Rattle.convex_poly.specs.Vectors.{turn_of, inner_product}
 use Rattle.convex_poly.proofs.Ways.{Meets0, Rel, meets_of, rel_line, zero_part, turns_rel, flat_rel}
 
@@ -47,8 +47,8 @@ rel_swap u v r A B C h = record { x = omega (arith, ints, h.x); y = omega (arith
 rel_turn : (u v r : Pt) (A B C : ℤ) → Rel u v r A B C → Rel r u v C A B
 rel_turn u v r A B C h = record { x = omega (arith, ints, h.x); y = omega (arith, ints, h.y) }
 
-sum_swap : (u v r : Pt) (a b c K W X Y : ℤ) → Sum3 u v r a b c K W X Y → Sum3 v u r b a c K W X Y
-sum_swap u v r a b c K W X Y h = record {
+sum3_swap : (u v r : Pt) (a b c K W X Y : ℤ) → Sum3 u v r a b c K W X Y → Sum3 v u r b a c K W X Y
+sum3_swap u v r a b c K W X Y h = record {
   a_ok = h.b_ok;
   b_ok = h.a_ok;
   c_ok = h.c_ok;
@@ -146,10 +146,7 @@ det_back : (x X y Y : ℤ) → det x X y Y <ℤ pos 0 → pos 0 <ℤ det y Y x X
 det_back x X y Y h = subst (λ z. pos 0 <ℤ z) (ring (x ∷ X ∷ y ∷ Y ∷ []) (num (pos 0) ⊖ ((var 0 ⊗ var 3) ⊖ (var 1 ⊗ var 2))) ((var 2 ⊗ var 1) ⊖ (var 3 ⊗ var 0)) refl) (opposite_positive (det x X y Y) h)
 
 clash0 : (x X y Y : ℤ) → pos 0 ≤ℤ det x X y Y → pos 0 <ℤ det y Y x X → ⊥
-clash0 x X y Y h k = both (det x X y Y) (det y Y x X) (ring (x ∷ X ∷ y ∷ Y ∷ []) ((var 0 ⊗ var 3) ⊖ (var 1 ⊗ var 2)) (num (pos 0) ⊖ ((var 2 ⊗ var 1) ⊖ (var 3 ⊗ var 0))) refl) h k
-  where
-    both : (z w : ℤ) → z ≡ pos 0 -ℤ w → pos 0 ≤ℤ z → pos 0 <ℤ w → ⊥
-    both z w e h k = omega (arith, ints)
+clash0 x X y Y h k = opposite_clash (det x X y Y) (det y Y x X) (ring (x ∷ X ∷ y ∷ Y ∷ []) ((var 0 ⊗ var 3) ⊖ (var 1 ⊗ var 2)) (num (pos 0) ⊖ ((var 2 ⊗ var 1) ⊖ (var 3 ⊗ var 0))) refl) h k
 
 second_below : (x X y Y : ℤ) → pos 0 ≤ℤ x → X <ℤ pos 0 → pos 0 ≤ℤ y → det x X y Y <ℤ pos 0 → Y <ℤ pos 0
 second_below x X y Y hx hX hy h =
@@ -186,7 +183,7 @@ with_first vs u v r A B C a b c K W X Y iu iv ir e s n t =
     (λ m. drop_first vs u v r A B C a b c K W X Y iv ir e s n t l m))
   where
     drop_b : B <ℤ pos 0 → pos 0 ≤ℤ det b B a A → pos 0 ≤ℤ det b B c C → Short vs W X Y
-    drop_b nb da dc = drop_first vs v u r B A C b a c K W X Y iu ir (rel_swap u v r A B C e) (sum_swap u v r a b c K W X Y s) nb (total_swap A B C t) da dc
+    drop_b nb da dc = drop_first vs v u r B A C b a c K W X Y iu ir (rel_swap u v r A B C e) (sum3_swap u v r a b c K W X Y s) nb (total_swap A B C t) da dc
 
     drop_c : C <ℤ pos 0 → pos 0 ≤ℤ det c C a A → pos 0 ≤ℤ det c C b B → Short vs W X Y
     drop_c nc da db = drop_first vs r u v C A B c a b K W X Y iu iv (rel_turn u v r A B C e) (sum_turn u v r a b c K W X Y s) nc (total_turn A B C t) da db
@@ -199,7 +196,7 @@ signed_rel : (vs : List Pt) (u v r : Pt) (A B C a b c K W X Y : ℤ) → Include
     → Nonzero A B C → pos 0 ≤ℤ ((A +ℤ B) +ℤ C) → Short vs W X Y ⊎ Meets0 vs
 signed_rel vs u v r A B C a b c K W X Y iu iv ir e s nz t =
     by_lt_z A (pos 0) (λ n. inl (with_first vs u v r A B C a b c K W X Y iu iv ir e s n t))
-    (λ pa. by_lt_z B (pos 0) (λ n. inl (with_first vs v u r B A C b a c K W X Y iv iu ir (rel_swap u v r A B C e) (sum_swap u v r a b c K W X Y s) n (total_swap A B C t)))
+    (λ pa. by_lt_z B (pos 0) (λ n. inl (with_first vs v u r B A C b a c K W X Y iv iu ir (rel_swap u v r A B C e) (sum3_swap u v r a b c K W X Y s) n (total_swap A B C t)))
     (λ pb. by_lt_z C (pos 0) (λ n. inl (with_first vs r u v C A B c a b K W X Y ir iu iv (rel_turn u v r A B C e) (sum_turn u v r a b c K W X Y s) n (total_turn A B C t)))
     (λ pc. inr (meets_of vs u v r A B C iu iv ir e pa pb pc (some pa pb pc)))))
   where
@@ -223,20 +220,11 @@ three vs u v r a b c K W X Y iu iv ir s =
       | inr nz ↦ from_rel vs u v r (turn_of v r) (turn_of r u) (turn_of u v) a b c K W X Y iu iv ir (turns_rel u v r) s (λ h k m. nz m)
       | inl z ↦ elim (is_zero (inner_product u u)) [
         | inr nz ↦ from_rel vs u v r (inner_product u v) (pos 0 -ℤ inner_product u u) (pos 0) a b c K W X Y iu iv ir (flat_rel u v r z) s (λ h k m. nz (zero_of_opposite (inner_product u u) k))
-        | inl o ↦ inr (record { n = 1; some = omega arith; mix = mix_to vs _ _ _ _ _ _ refl (zero_part u.x u.y o) (zero_part u.y u.x (other (u.x *ℤ u.x) (u.y *ℤ u.y) o)) (mix_included vs u iu) })
+        | inl o ↦ inr (record { n = 1; some = omega arith; mix = mix_to vs _ _ _ _ _ _ refl (zero_part u.x u.y o) (zero_part u.y u.x (sum_swap (u.y *ℤ u.y) (u.x *ℤ u.x) ∙ o)) (mix_included vs u iu) })
       ]
     ]
-  where
-    other : (s t : ℤ) → s +ℤ t ≡ pos 0 → t +ℤ s ≡ pos 0
-    other s t h = omega (arith, ints)
 
 -- ---- the whole list
-
-pub no_total : (f : Pt → ℤ) (ws : List ℕ) (vs : List Pt) → total ws vs ≡ 0 → weighted f ws vs ≡ pos 0
-no_total f [] vs h = refl
-no_total f (w ∷ ws) [] h = refl
-no_total f (zero ∷ ws) (v ∷ vs) h = let e : weighted f ws vs ≡ pos 0 = no_total f ws vs (omega (arith, h)) in omega (arith, ints, e)
-no_total f (suc w ∷ ws) (v ∷ vs) h = absurd (omega (arith, h))
 
 -- weighted points come to a segment, or 0 is in the hull
 pub ray : (ws : List ℕ) (vs : List Pt) → 0 < total ws vs → Short vs (pos (total ws vs)) (weighted (λ v. v.x) ws vs) (weighted (λ v. v.y) ws vs) ⊎ Meets0 vs

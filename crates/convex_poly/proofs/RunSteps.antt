@@ -10,8 +10,8 @@ use Rattle.spot_terms.specs.declared.plain.Pt.{Pt}
 use Rattle.spot_terms.specs.Whole.{Within, quotient_floor}
 use Rattle.spot_terms.proofs.Products.{scaled_order}
 use Rattle.spot_terms.proofs.Quotients.{below_factor, product_le_at, next_product_gt_at}
-use Rattle.spot_terms.proofs.Ring.{ring, var, num, ◌⊖◌, ◌⊗◌}
-use Rattle.spot_terms.proofs.Orders.{at_most_of_difference, at_most_trans, below_next, below_not_at_least, difference_across, negative_clash}
+use Rattle.spot_terms.proofs.Ring.{ring, var, num, ◌⊖◌, ◌⊗◌, turn}
+use Rattle.spot_terms.proofs.Orders.{at_most_of_difference, at_most_trans, below_next, below_not_at_least, difference_across, negative_clash, lesser_is}
 use Rattle.convex_poly.specs.Turns.{cross}
 use Rattle.convex_poly.specs.Runs.{IsSpanOf, IsRun, IsQuotient, AreLeft, pt}
 
@@ -28,9 +28,6 @@ up_to_quotient room rise q z h u = (
   (λ k. times_le rise z q room h k (turned (rise *ℤ q) (q *ℤ rise) room (turn rise q) u.low)),
 )
   where
-    turn : (a b : ℤ) → a *ℤ b ≡ b *ℤ a
-    turn a b = omega (arith, ints)
-
     le_lt : (a b c d : ℤ) → a ≡ b → b ≤ℤ c → c <ℤ d → a <ℤ d
     le_lt a b c d e h k = omega (arith, ints)
 
@@ -141,9 +138,6 @@ pub run_same : (P Q : ℤ → Type 0) (r : Option (ℤ × ℤ)) → ((x : ℤ) �
 run_same P Q None f g h = λ x q. h x (g x q)
 run_same P Q (Some span) f g h = record { ordered = h.ordered; exact = λ x. ((λ q. (h.exact x).0 (g x q)), (λ w. f x ((h.exact x).1 w))) }
 
-min_of : (g r m : ℤ) → m ≡ int_min g r → (m ≤ℤ g) × ((m ≤ℤ r) × ((m ≡ g) ⊎ (m ≡ r)))
-min_of g r m e = grind (arith, ints)
-
 -- the cross product of an edge and a point of a row
 row_cross : (a b : Pt) (x y : ℤ) → cross a b (pt x y) ≡ ((b.x -ℤ a.x) *ℤ (y -ℤ a.y)) -ℤ ((b.y -ℤ a.y) *ℤ (x -ℤ a.x))
 row_cross a b x y = refl
@@ -151,7 +145,7 @@ row_cross a b x y = refl
 -- left of the edge in both rows, where the rise is at most the lesser room
 pub left_of_room : (a b : Pt) (y0 y1 x r s m : ℤ) → r ≡ (b.x -ℤ a.x) *ℤ (y0 -ℤ a.y) → s ≡ (b.x -ℤ a.x) *ℤ (y1 -ℤ a.y) → m ≡ int_min r s → (((b.y -ℤ a.y) *ℤ (x -ℤ a.x)) ≤ℤ m) ↔ AreLeft a b y0 y1 x
 left_of_room a b y0 y1 x r s m er es em =
-    let w = min_of r s m em in (
+    let w = lesser_is r s m em in (
       (λ h. (subst (λ z. pos 0 ≤ℤ (z -ℤ ((b.y -ℤ a.y) *ℤ (x -ℤ a.x)))) er (difference_across ((b.y -ℤ a.y) *ℤ (x -ℤ a.x)) m r h w.0), subst (λ z. pos 0 ≤ℤ (z -ℤ ((b.y -ℤ a.y) *ℤ (x -ℤ a.x)))) es (difference_across ((b.y -ℤ a.y) *ℤ (x -ℤ a.x)) m s h w.1.0))),
       (λ l. elim w.1.1 [
         | inl e ↦ subst (λ z. ((b.y -ℤ a.y) *ℤ (x -ℤ a.x)) ≤ℤ z) (sym (e ∙ er)) (at_most_of_difference ((b.y -ℤ a.y) *ℤ (x -ℤ a.x)) ((b.x -ℤ a.x) *ℤ (y0 -ℤ a.y)) l.0)

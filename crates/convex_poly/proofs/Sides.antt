@@ -12,7 +12,7 @@ use Rattle.spot_terms.proofs.Ring.{ring, Exp, var, num, ◌⊕◌, ◌⊖◌, �
 use Rattle.spot_terms.proofs.Mixes.{Mix}
 use Rattle.spot_terms.proofs.Mixes.{total, mix_none, mix_add, mix_scale, mix_to, mix_included, positive_times}
 use Rattle.spot_terms.proofs.Hulls.{mix_hull, hull_mix_at, mix_hull_at}
-use Rattle.spot_terms.proofs.Orders.{difference_of_below, natural_of, opposite_not_negative}
+use Rattle.spot_terms.proofs.Orders.{difference_of_below, natural_of, opposite_not_negative, first_alone}
 use Rattle.spot_terms.proofs.Places.{all_map}
 use Rattle.convex_poly.specs.Chains.{key, Toward}
 use Rattle.spot_terms.proofs.Segments.{above_times, sum_of}
@@ -104,11 +104,8 @@ mixed_toward_included gx gy vs u c = record {
   w = 1;
   t = 0;
   some = omega arith;
-  mix = mix_to vs _ _ _ _ _ _ refl (alone u.x gx) (alone u.y gy) (mix_included vs u c);
+  mix = mix_to vs _ _ _ _ _ _ refl (sym (first_alone u.x gx)) (sym (first_alone u.y gy)) (mix_included vs u c);
 }
-  where
-    alone : (x g : ℤ) → x ≡ (pos 1 *ℤ x) +ℤ (pos 0 *ℤ g)
-    alone x g = omega (arith, ints)
 
 -- on both sides is in the hull
 mixed_both_sides : (gx gy hx hy : ℤ) (vs : List Pt) (q : Pt) → hx ≡ pos 0 -ℤ gx → hy ≡ pos 0 -ℤ gy → TowardMix gx gy vs q → TowardMix hx hy vs q → InHull vs q

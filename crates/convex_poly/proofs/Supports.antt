@@ -8,7 +8,7 @@ use Rattle.spot_terms.specs.declared.plain.Pt.{Pt}
 use Rattle.spot_terms.specs.Lists.{Includes}
 use Rattle.spot_terms.specs.Hull.{dot, IsSupport}
 use Rattle.spot_terms.proofs.ListLemmas.{includes_at}
-use Rattle.spot_terms.proofs.Orders.{at_most_trans}
+use Rattle.spot_terms.proofs.Orders.{at_most_trans, greater_is}
 use Rattle.spot_terms.proofs.Places.{same_index, place_of, compare3}
 
 -- g is the greatest value of the first i corners, and a corner has it
@@ -19,12 +19,9 @@ pub record IsGreatestUpTo (vs : List Pt) (nx ny : ℤ) (i : ℕ) (g : ℤ) : Typ
 pub first_reached : (vs : List Pt) (nx ny g : ℤ) (d : Pt) → 0 < length vs → g ≡ dot nx ny (get_or vs 0 d) → IsGreatestUpTo vs nx ny 0 g
 first_reached vs nx ny g d h e = record { bound = λ k f l. absurd (omega arith); reached = (get_or vs 0 d, includes_at vs 0 d h, sym e) }
 
-max_of : (g r m : ℤ) → m ≡ int_max g r → (g ≤ℤ m) × ((r ≤ℤ m) × ((m ≡ g) ⊎ (m ≡ r)))
-max_of g r m e = grind (arith, ints)
-
 pub next_reached : (vs : List Pt) (nx ny : ℤ) (i : ℕ) (d : Pt) (g r m : ℤ) → i < length vs → IsGreatestUpTo vs nx ny i g → r ≡ dot nx ny (get_or vs i d) → m ≡ int_max g r → IsGreatestUpTo vs nx ny (i + 1) m
 next_reached vs nx ny i d g r m h u e f =
-    let w = max_of g r m f in
+    let w = greater_is g r m f in
     record {
       bound = λ k k_d l. compare3 k i
           (λ less. at_most_trans _ _ _ (u.bound k k_d less) w.0)

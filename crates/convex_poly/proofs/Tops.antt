@@ -10,7 +10,7 @@ use Rattle.spot_terms.specs.Hull.{Before, IsCornerList}
 use Rattle.spot_terms.proofs.ListLemmas.{includes_at}
 use Rattle.spot_terms.proofs.Hulls.{hull_included}
 use Rattle.spot_terms.proofs.Ring.{ring, Exp, var, ◌⊕◌, ◌⊖◌, ◌⊗◌}
-use Rattle.spot_terms.proofs.Orders.{antisymmetric, below_of_difference, below_trans, sum_positive, product_not_negative, product_positive, difference_positive, below_or_at_least, positive_not_negative}
+use Rattle.spot_terms.proofs.Orders.{antisymmetric, below_of_difference, below_trans, sum_positive, product_not_negative, product_positive, difference_positive, below_or_at_least, positive_not_negative, zero_not_positive, below_not_equal}
 use Rattle.convex_poly.specs.Chains.{key}
 use Rattle.convex_poly.specs.Polygons.{IsPosition, IsSummand}
 use Rattle.convex_poly.specs.Sums.{IsTop}
@@ -129,10 +129,7 @@ module _ (vs : List Pt) (positions : AllByRecursion IsPosition vs) (convex : IsC
       ]
 
       differs : (a b c : Pt) → pos 0 <ℤ cross a b c → b ≡ c → ⊥
-      differs a b c h e = none (cross a b c) h (ap (λ (z : Pt). cross a z c) e ∙ cross_second a c)
-        where
-          none : (z : ℤ) → pos 0 <ℤ z → z ≡ pos 0 → ⊥
-          none z h e = omega (arith, ints)
+      differs a b c h e = zero_not_positive (cross a b c) (ap (λ (z : Pt). cross a z c) e ∙ cross_second a c) h
 
       -- of two different points one is before the other
       down : (e : Pt) → rank (k + 1) e <ℤ rank k e
@@ -150,10 +147,7 @@ module _ (vs : List Pt) (positions : AllByRecursion IsPosition vs) (convex : IsC
               (λ even. ne (same_pt p q (antisymmetric _ _ level back) (antisymmetric _ _ even high)))))))
             where
               swapped : (p q : Pt) → key far (pos 1) q <ℤ key far (pos 1) p → key far (pos 1) p ≡ key far (pos 1) q → ⊥
-              swapped p q h e = against _ _ h e
-                where
-                  against : (z w : ℤ) → z <ℤ w → w ≡ z → ⊥
-                  against z w h e = omega (arith, ints)
+              swapped p q h e = below_not_equal _ _ h (sym e)
 
 -- the corner after the top is later
 pub top_later : (vs : List Pt) (k : ℕ) (d : Pt) → ((i j : ℕ) (e : Pt) → i < j → j ≤ k → Before (get_or vs i e) (get_or vs j e)) → k + 1 < length vs → Before (get_or vs k d) (get_or vs (k + 1) d) → (i j : ℕ) (e : Pt) → i < j → j ≤ k + 1 → Before (get_or vs i e) (get_or vs j e)

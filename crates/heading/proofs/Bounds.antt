@@ -9,6 +9,7 @@ use Rattle.heading.proofs.Terms.{weight, power-even, power-odd, ratio}
 use Rattle.heading.proofs.Sums.{IsSumOf, exact_term-even, exact_term-odd, cosine_sum, sine_sum}
 use Rattle.heading.proofs.Polynomials.{eval, coefficients, squares-within, squares-parts, next_power}
 use Rattle.heading.proofs.Covers.{denominator_pos}
+use Rattle.spot_terms.proofs.Ring.{spread}
 
 abbrev pub coefficient : ℕ → ℕ → ℤ
 coefficient odd k = alternating k (pos (weight (2 * k + odd)))
@@ -66,11 +67,8 @@ polynomial-eval_odd a zero = alternating-zero (exact_term (pos a) 1) ∙ term-od
 polynomial-eval_odd a (suc k) =
     ap (λ (x : ℤ). x +ℤ alternating (suc k) (exact_term (pos a) (2 * suc k + 1))) (polynomial-eval_odd a k)
     ∙ ap (λ (x : ℤ). pos a *ℤ eval (coefficients 1 0 (suc k)) (pos (a * a)) +ℤ x) (term-odd a (suc k))
-    ∙ together (pos a) (eval (coefficients 1 0 (suc k)) (pos (a * a))) (pos ((a * a) ^ suc k) *ℤ coefficient 1 (suc k))
+    ∙ sym (spread (pos a) (eval (coefficients 1 0 (suc k)) (pos (a * a))) (pos ((a * a) ^ suc k) *ℤ coefficient 1 (suc k)))
     ∙ ap (λ (x : ℤ). pos a *ℤ x) (sym (coefficients-last 1 (suc k) (a * a)))
-  where
-    together : (x y z : ℤ) → x *ℤ y +ℤ x *ℤ z ≡ x *ℤ (y +ℤ z)
-    together x y z = omega (arith, ints, products)
 
 -- a number whose square is at most 2e² is at most 2e in size
 root_of_twice : (x : ℤ) (e : ℕ) → (x *ℤ x) ≤ℤ pos (e * e + e * e) → nat_abs x ≤ 2 * e

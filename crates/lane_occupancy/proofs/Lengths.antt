@@ -12,7 +12,7 @@ use Rattle.spot_terms.proofs.Products.{at_most_root, square_not_negative, square
 use Rattle.spot_terms.proofs.Ring.{ring, var, num, ◌⊕◌, ◌⊖◌, ◌⊗◌}
 use Rattle.spot_terms.proofs.Roots.{root_order}
 use Rattle.lane_occupancy.specs.Laws.{ArePieces}
-use Rattle.spot_terms.proofs.Orders.{pos_injective}
+use Rattle.spot_terms.proofs.Orders.{pos_injective, minus_itself, at_most_of_squares}
 
 -- ---- two vectors and their sum
 
@@ -102,10 +102,7 @@ two_pieces w v p q r s e f =
 
 -- from a point to itself
 pub no_way : (p : FractionPt) → IsAsLong 0 p p
-no_way p = rw (none (p.x *ℤ pos p.d), none (p.y *ℤ pos p.d)) (omega arith)
-  where
-    none : (z : ℤ) → z -ℤ z ≡ pos 0
-    none z = omega (arith, ints)
+no_way p = rw (minus_itself (p.x *ℤ pos p.d), minus_itself (p.y *ℤ pos p.d)) (omega arith)
 
 -- the pieces of a trip
 pub trip_long : (a : Entry) (rest : List Entry) (q : FractionPt) → ArePieces a rest q → IsAsLong (trip_length (a ∷ rest)) a.at q
@@ -119,13 +116,10 @@ trip_long a (b ∷ rest) q h =
 
 -- ---- gaps
 
-square_le : (a b : ℕ) → a * a ≤ b * b → a ≤ b
-square_le a b h = root_order (b * b) b a h (omega arith)
-
 -- a distance that is at least w and at most l
 pub within_long : (w l : ℕ) (p q : FractionPt) → 1 ≤ p.d → 1 ≤ q.d → IsWithinDistance w p q → IsAsLong l p q → w ≤ l
 within_long w l p q g h e f =
-    part w l p.d g (part (w * p.d) (l * p.d) q.d h (square_le (w * p.d * q.d) (l * p.d * q.d) (omega (arith, e, f))))
+    part w l p.d g (part (w * p.d) (l * p.d) q.d h (at_most_of_squares (w * p.d * q.d) (l * p.d * q.d) (omega (arith, e, f))))
   where
     part : (m n k : ℕ) → 0 < k → m * k ≤ n * k → m ≤ n
     part m n k s i = le_of_mul-le-mul_right i s

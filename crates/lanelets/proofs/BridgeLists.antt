@@ -13,6 +13,7 @@ use Rattle.lanelets.specs.Made.{Adds, IsPlaced}
 use Rattle.lanelets.specs.declared.cell.Placed.{Placed}
 use Rattle.lanelets.proofs.Places.{drop_at, same_at}
 use Rattle.spot_terms.proofs.ItemPlaces.{got_below}
+use Rattle.spot_terms.proofs.Orders.{true_not_false}
 
 -- ---- over a list of positions
 
@@ -96,12 +97,9 @@ over_to lanes e n l (m ∷ rest) xs he h a =
     elim (either_bool (follows m l)) [
       | inl t ↦ over_hit lanes e n (last_portal l) m xs (bridges_to e l (n + 1) rest) here (l, m, he, here, t) a (λ ys b. over_to lanes e (n + 1) l rest ys he next b)
           ∙ ap (λ zs. zs ++ bridges_to e l (n + 1) rest) (sym (and_true (follows m l) (not (same_portal (last_portal l) (first_portal m))) (bridge_cell e n (last_portal l) (first_portal m)) t))
-      | inr f ↦ over_to lanes e (n + 1) l rest xs he next (over_miss lanes e n xs (λ p. not_both (follows m l) (subst (λ (k : Lane). follows m k ≡ true) (same_at lanes e p.0 l p.2 he) (subst (λ (k : Lane). follows k p.0 ≡ true) (same_at lanes n p.1 m p.3 here) p.4)) f) a)
+      | inr f ↦ over_to lanes e (n + 1) l rest xs he next (over_miss lanes e n xs (λ p. true_not_false (follows m l) (subst (λ (k : Lane). follows m k ≡ true) (same_at lanes e p.0 l p.2 he) (subst (λ (k : Lane). follows k p.0 ≡ true) (same_at lanes n p.1 m p.3 here) p.4)) f) a)
           ∙ ap (λ zs. zs ++ bridges_to e l (n + 1) rest) (sym (and_false (follows m l) (not (same_portal (last_portal l) (first_portal m))) (bridge_cell e n (last_portal l) (first_portal m)) f))
     ]
-  where
-    not_both : (b : Bool) → b ≡ true → b ≡ false → ⊥
-    not_both b t f = cc
 
 -- the bridges from a lanelet are those over the list of those that follow it
 pub over_all : (lanes : List Lane) (e : ℕ) (l : Lane) (p : Portal) (xs : List ℕ) → slice_get lanes e ≡ Some l → last_portal l ≡ Some p → Lists (IsFollowed lanes e) xs → bridges_of lanes e ≡ bridges_over lanes e (Some p) xs

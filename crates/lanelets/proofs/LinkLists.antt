@@ -21,14 +21,12 @@ use Rattle.lanelets.specs.Links.{IsPlaceOf, ArePlaces, AreSuccessors, IsFollowed
 use Rattle.lanelets.proofs.Disjunctions.{either, or_first, or_later, or_second}
 use Rattle.lanelets.proofs.Places.{same_at, partner_at, same_lengths}
 use Rattle.spot_terms.proofs.ItemPlaces.{got_below, item_at}
+use Rattle.spot_terms.proofs.Orders.{true_not_false}
 
 -- ---- the position of an id
 
 key_at : (lanes : List Lane) (f : ℕ) (l : Lane) (d : ℕ) → slice_get lanes f ≡ Some l → get_or (keys_of lanes) f d ≡ l.0
 key_at lanes f l d h = get_or_from_slice_get (keys_of lanes) f l.0 d (slice_get-map (λ (e : Lane). e.0) lanes f ∙ ap (option_map (λ (e : Lane). e.0)) h)
-
-no_such : (b : Bool) → b ≡ true → b ≡ false → ⊥
-no_such b t f = cc
 
 pub place_some : (lanes : List Lane) (id p : ℕ) → position (nat_eq id) (keys_of lanes) ≡ Some p → IsDistinct nat_eq (keys_of lanes) → IsPlaceOf lanes id (Some p)
 place_some lanes id p h unique =
@@ -43,8 +41,8 @@ place_some lanes id p h unique =
             (λ e. elim (cases_eq f p) [
               | inl same ↦ same
               | inr other ↦ elim (cases_lt f p) [
-                | inl before ↦ absurd (no_such (nat_eq id (get_or (keys_of lanes) f 0)) (eq-eqb id (get_or (keys_of lanes) f 0) (e ∙ sym key)) (at.2 f before))
-                | inr after ↦ absurd (no_such (nat_eq (get_or (keys_of lanes) p 0) (get_or (keys_of lanes) f 0)) (eq-eqb (get_or (keys_of lanes) p 0) (get_or (keys_of lanes) f 0) (sym there ∙ e ∙ sym key))
+                | inl before ↦ absurd (true_not_false (nat_eq id (get_or (keys_of lanes) f 0)) (eq-eqb id (get_or (keys_of lanes) f 0) (e ∙ sym key)) (at.2 f before))
+                | inr after ↦ absurd (true_not_false (nat_eq (get_or (keys_of lanes) p 0) (get_or (keys_of lanes) f 0)) (eq-eqb (get_or (keys_of lanes) p 0) (get_or (keys_of lanes) f 0) (sym there ∙ e ∙ sym key))
                     (apart_from_distinct nat_eq (keys_of lanes) p f 0 unique (omega (arith, other, after)) (omega (arith, within, many))))
               ]
             ]),

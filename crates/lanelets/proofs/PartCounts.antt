@@ -4,6 +4,7 @@ use Rattle.spot_terms.specs.Cells.{part_count, side_square}
 use Rattle.spot_terms.specs.PartCounts.{PartCountsAre}
 use Rattle.spot_terms.specs.Whole.{root_ceiling}
 use Rattle.spot_terms.proofs.Roots.{root_ceiling-is}
+use Rattle.spot_terms.proofs.Orders.{at_most_greater_square}
 
 -- that many parts are at least as long as the root
 long_enough : (root : ℕ) → root ≤ max 1 ((root + 1_999_999) / 2_000_000) * 2_000_000
@@ -12,9 +13,6 @@ long_enough root = omega arith
 -- and no fewer are
 few_enough : (root m : ℕ) → 1 ≤ m → root ≤ m * 2_000_000 → max 1 ((root + 1_999_999) / 2_000_000) ≤ m
 few_enough root m h k = omega arith
-
-squares_grow : (a r s : ℕ) → a ≤ r * r → r ≤ s → a ≤ s * s
-squares_grow a r s h k = grind (arith, mul-le-mul)
 
 pub part_counts_are : PartCountsAre
 unfolding part_count
@@ -26,7 +24,7 @@ part_counts_are l l' r r' h k =
     let long = long_enough (root_ceiling (max a b)) in
     record {
       some = omega arith;
-      left = squares_grow a (root_ceiling (max a b)) _ (omega (arith, enough)) long;
-      right = squares_grow b (root_ceiling (max a b)) _ (omega (arith, enough)) long;
+      left = at_most_greater_square a (root_ceiling (max a b)) _ (omega (arith, enough)) long;
+      right = at_most_greater_square b (root_ceiling (max a b)) _ (omega (arith, enough)) long;
       least = λ m some left right. few_enough (root_ceiling (max a b)) m some (root.least (m * 2_000_000) (omega (arith, left, right)));
     }

@@ -21,11 +21,12 @@ use Rattle.merge_sets.specs.Cells.{AreSound, IsStep, IsTable, JoinsColumn, OfBot
 use Rattle.merge_sets.specs.Tables.{Adds, CanAdd, CanJoin, Holds, HoldsInCell, IsAddable, IsCellOf, JoinsRows, PartsHold, place_of}
 use Rattle.merge_sets.specs.declared.cells.Cell.{Cell}
 use Rattle.merge_sets.specs.declared.places.BoxSlots.{BoxSlots}
-use Rattle.merge_sets.proofs.BoxCells.{one_place, place_below, place_past, some_width}
+use Rattle.merge_sets.proofs.BoxCells.{one_place, place_below, place_past}
 use Rattle.merge_sets.proofs.Joins.{both_joined}
 use Rattle.merge_sets.proofs.Parts.{leave_states}
 use Rattle.merge_sets.proofs.PartSlots.{none_outside}
 use Rattle.merge_sets.proofs.Steps.{StepOf, cell_at, cell_side, holds_at, holds_one, none_past, not_of, table_of}
+use Rattle.spot_terms.proofs.Slots.{some_width}
 
 -- ---- a pair came in
 

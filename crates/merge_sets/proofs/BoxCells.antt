@@ -80,21 +80,6 @@ counted_slots left right i o l =
     let less : i < nat_abs (right -ℤ left +ℤ pos 1) = subst (λ (n : ℕ). i < n) (sym (count_is right left o)) l in
     record { low = omega (arith, ints); high = omega (arith, ints, o, less) }
 
--- ---- slots are in the order of their places
-
-pub slot_order : (w a b : ℤ) → pos 0 <ℤ w → a ≤ℤ b → slot w a ≤ℤ slot w b
-slot_order w a b some h =
-    let x = quotient_floor-is a w some in
-    let y = quotient_floor-is b w some in
-    let below : slot w a <ℤ (slot w b +ℤ pos 1) = below_factor (slot w a) (slot w b +ℤ pos 1) w some (between (slot w a *ℤ w) a b ((slot w b +ℤ pos 1) *ℤ w) x.product_le h y.next_product_gt) in
-    below_next (slot w a) (slot w b) below
-  where
-    between : (x a b y : ℤ) → x ≤ℤ a → a ≤ℤ b → b <ℤ y → x <ℤ y
-    between x a b y p q r = omega (arith, ints, p, q, r)
-
-pub some_width : (w : ℤ) → Within (pos 100_000) (pos 100_000_000) w → pos 0 <ℤ w
-some_width w h = omega (arith, ints, h.low)
-
 -- ---- cells of a box
 
 -- how many cells a column of a box has

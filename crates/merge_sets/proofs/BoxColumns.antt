@@ -22,10 +22,11 @@ use Rattle.merge_sets.specs.Cells.{AreRows, AreSound, IsPartNumbers, JoinsColumn
 use Rattle.merge_sets.specs.Tables.{IsAddable, IsCellOf, place_of}
 use Rattle.merge_sets.specs.declared.cells.Cell.{Cell}
 use Rattle.merge_sets.specs.declared.places.BoxSlots.{BoxSlots}
-use Rattle.merge_sets.proofs.BoxCells.{apart_from, column_of, counted_within, counted_slots, last_within, columns_within, place_past, reached, some_width, steps_below}
+use Rattle.merge_sets.proofs.BoxCells.{apart_from, column_of, counted_within, counted_slots, last_within, columns_within, place_past, reached, steps_below}
 use Rattle.base_sets.proofs.Slots.{count_is}
 use Rattle.merge_sets.proofs.SlotsMet.{MeetsWithin, meets_within, none_there, slot_side}
-use Rattle.spot_terms.proofs.Orders.{row_before, at_most_trans}
+use Rattle.spot_terms.proofs.Orders.{row_before, at_most_trans, natural_trans, reflexive}
+use Rattle.spot_terms.proofs.Slots.{some_width}
 
 -- ---- a cell by its numbers
 
@@ -121,13 +122,7 @@ module _ (o : OuterBox) (grid : Grid) (k : ℕ) (x y : List Pt) (box : IsBox o) 
   few_is = few a n b m (slots_met grid.w o.xlo o.xhi) (column_of o grid) columns_fit rows_fit (some_columns (slot grid.w o.xlo) (slot grid.w o.xhi) left right met_columns.low met_columns.order met_columns.high)
     where
       some_columns : (q p left right : ℤ) → q ≤ℤ left → left ≤ℤ right → right ≤ℤ p → 1 ≤ count_between q p
-      some_columns q p left right h o l = let w = steps_below q p q (record { low = self q; high = whole q p left right h o l }) in omega (arith, w)
-        where
-          self : (q : ℤ) → q ≤ℤ q
-          self q = omega (arith, ints)
-
-          whole : (q p left right : ℤ) → q ≤ℤ left → left ≤ℤ right → right ≤ℤ p → q ≤ℤ p
-          whole q p left right h o l = omega (arith, ints, h, o, l)
+      some_columns q p left right h o l = let w = steps_below q p q (record { low = reflexive q; high = at_most_trans q left p h (at_most_trans left right p o l) }) in omega (arith, w)
 
       times_at_least : (C R : ℕ) → 1 ≤ C → R ≤ C * R
       times_at_least C R h = grind arith
@@ -181,9 +176,6 @@ module _ (o : OuterBox) (grid : Grid) (k : ℕ) (x y : List Pt) (box : IsBox o) 
           | inl in_row ↦ met col row c got in_col in_row
         ]
       ];
-      past = λ p h. joins.outside p (λ i l. inr (let g = column_within (column_of o grid) a b m n i (slots_met grid.w o.xlo o.xhi) rows_fit columns_fit l in more p (cells_of grid.w grid.g (rect_of_box o)) (place_of o grid left low + i * column_of o grid + m) g h));
+      past = λ p h. joins.outside p (λ i l. inr (let g = column_within (column_of o grid) a b m n i (slots_met grid.w o.xlo o.xhi) rows_fit columns_fit l in natural_trans (place_of o grid left low + i * column_of o grid + m) (cells_of grid.w grid.g (rect_of_box o)) p g h));
       sound = joins.sound;
     }
-      where
-        more : (p C q : ℕ) → q ≤ C → C ≤ p → q ≤ p
-        more p C q h k = omega (arith, h, k)

@@ -12,7 +12,7 @@ use Rattle.merge_sets.specs.Cells.{AreEight, AreSound, IsPartNumbers, JoinsColum
 use Rattle.merge_sets.specs.declared.cells.Cell.{Cell}
 use Rattle.merge_sets.proofs.Joins.{EightOf, eight_of, eight_greater, both_joined}
 use Rattle.merge_sets.proofs.FrameMerges.{greater_in_order}
-use Rattle.spot_terms.proofs.Orders.{row_before}
+use Rattle.spot_terms.proofs.Orders.{row_before, below_or_here}
 
 pub sound_greater : (k : ℕ) (f g : List ℤ) → AreSound k f → AreSound k g → AreSound k (greater f g)
 sound_greater k f g h s = record { eight = eight_greater f g h.eight s.eight; order = go (eight_of f h.eight.count) (eight_of g s.eight.count) }
@@ -35,13 +35,10 @@ module _ (at stride m : ℕ) (width first : ℤ) (k : ℕ) (x : List Pt) (rows :
   untouched : (n j : ℕ) (old now : List Cell) → JoinsColumns at stride n m width first k x rows old now → slice_get now (at + n * stride + j) ≡ slice_get old (at + n * stride + j)
   untouched n j old now s = s.outside (at + n * stride + j) (λ i l. inr (let b = row_before i n stride m l apart in omega (arith, b)))
 
-  fewer : (n i : ℕ) → i < n + 1 → (i < n) ⊎ (i ≡ n)
-  fewer n i l = compare3 i n (λ a. inl a) (λ e. inr e) (λ a. absurd (omega (arith, l, a)))
-
   pub columns_skip : (n : ℕ) (old now : List Cell) → JoinsColumns at stride n m width first k x rows old now → IsPartNumbers width (first +ℤ pos n) k x None → JoinsColumns at stride (n + 1) m width first k x rows old now
   columns_skip n old now s part = record {
     count = s.count;
-    inside = λ i j r c l o g h. elim (fewer n i l) [
+    inside = λ i j r c l o g h. elim (below_or_here i n l) [
       | inl b ↦ s.inside i j r c b o g h
       | inr e ↦ (
         c,
@@ -58,7 +55,7 @@ module _ (at stride m : ℕ) (width first : ℤ) (k : ℕ) (x : List Pt) (rows :
       → JoinsColumn (at + n * stride) m f.n rows now new → JoinsColumns at stride (n + 1) m width first k x rows old new
   columns_more n old now new f s part sound few sounds t = record {
     count = t.count ∙ s.count;
-    inside = λ i j r c l o g h. elim (fewer n i l) [
+    inside = λ i j r c l o g h. elim (below_or_here i n l) [
       | inl b ↦ let (d, got, is) = s.inside i j r c b o g h in (d, t.outside (at + i * stride + j) (inl (let q = row_before i n stride m b apart in omega (arith, q, o))) ∙ got, is)
       | inr e ↦ here i j r c o g h e
     ];

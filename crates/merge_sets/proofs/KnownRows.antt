@@ -9,7 +9,7 @@ use Rattle.spot_terms.specs.CellNumbers.{Numbers}
 use Rattle.spot_terms.specs.Courses.{cells_of, slots_met}
 use Rattle.spot_terms.specs.Grid.{slot}
 use Rattle.round_out.specs.declared.frames.FrameNumbers.{FrameNumbers}
-use Rattle.spot_terms.proofs.Orders.{below_or_at_least}
+use Rattle.spot_terms.proofs.Orders.{below_or_at_least, plus_zero}
 use Rattle.spot_terms.proofs.Places.{compare3}
 use Rattle.base_sets.specs.declared.grid.Grid.{Grid}
 use Rattle.base_sets.specs.declared.grid.OuterBox.{OuterBox}
@@ -82,10 +82,7 @@ module _ (o : OuterBox) (grid : Grid) (k : ℕ) (slots : BoxSlots) (used : ℕ) 
   step = t.in_step o grid k refl
 
   first : 0 < length known → IsCellOf o grid col low
-  first l = subst (IsCellOf o grid col) (plain low) (each 0 l)
-    where
-      plain : (z : ℤ) → z +ℤ pos 0 ≡ z
-      plain z = omega (arith, ints)
+  first l = subst (IsCellOf o grid col) (plus_zero low) (each 0 l)
 
   some : (j : ℕ) → j < length known → 0 < length known
   some j l = omega (arith, l)

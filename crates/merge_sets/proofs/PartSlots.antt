@@ -27,7 +27,7 @@ use Rattle.round_out.proofs.Reflections.{mirror_as_it_is, mirror_x_turned}
 use Rattle.round_out.proofs.TwoClips.{corner_at_most}
 use Rattle.merge_sets.specs.Cells.{IsPartNumbers}
 use Rattle.merge_sets.specs.Slots.{IsPartFrom}
-use Rattle.spot_terms.proofs.Orders.{product_not_negative}
+use Rattle.spot_terms.proofs.Orders.{product_not_negative, at_most_opposite}
 
 -- ---- supports
 
@@ -67,10 +67,7 @@ pub whole_left : (vs : List Pt) (c : ℤ) → IsCornerList vs → AllByRecursion
 whole_left vs c convex all = whole_clip as_it_is mirror_as_it_is c vs convex all
 
 pub whole_right : (vs : List Pt) (lo : ℤ) → IsCornerList vs → AllByRecursion (λ v. lo ≤ℤ v.x) vs → IsClip x_turned (neg_ℤ lo) vs (Some vs)
-whole_right vs lo convex all = whole_clip x_turned mirror_x_turned (neg_ℤ lo) vs convex (all_of (λ v. (pos 0 -ℤ v.x) ≤ℤ neg_ℤ lo) vs (λ u i. turned u.x lo (all_included (λ v. lo ≤ℤ v.x) vs u all i)))
-  where
-    turned : (x lo : ℤ) → lo ≤ℤ x → (pos 0 -ℤ x) ≤ℤ neg_ℤ lo
-    turned x lo h = omega (arith, ints)
+whole_right vs lo convex all = whole_clip x_turned mirror_x_turned (neg_ℤ lo) vs convex (all_of (λ v. (pos 0 -ℤ v.x) ≤ℤ neg_ℤ lo) vs (λ u i. at_most_opposite lo u.x (all_included (λ v. lo ≤ℤ v.x) vs u all i)))
 
 -- no place is before the first corner's
 pub first_least : (v : Pt) (vs : List Pt) (lo : ℤ) → IsCornerList (v ∷ vs) → lo ≤ℤ v.x → AllByRecursion (λ c. lo ≤ℤ c.x) (v ∷ vs)

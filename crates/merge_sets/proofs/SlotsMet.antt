@@ -18,10 +18,12 @@ use Rattle.spot_terms.proofs.ListLemmas.{all_included, all_of, includes_map}
 use Rattle.spot_terms.proofs.Quotients.{product_le_at, next_product_gt_at}
 use Rattle.spot_terms.proofs.Ring.{ring, var, num, ◌⊕◌, ◌⊖◌, ◌⊗◌}
 use Rattle.merge_sets.specs.Cells.{IsNear}
-use Rattle.merge_sets.proofs.BoxCells.{counted_slots, slot_order, some_width}
+use Rattle.merge_sets.proofs.BoxCells.{counted_slots}
 use Rattle.merge_sets.proofs.PartSlots.{none_outside}
 use Rattle.merge_sets.proofs.PolyEnds.{places_order}
 use Rattle.spot_terms.proofs.Orders.{at_most_trans, product_not_negative}
+use Rattle.spot_terms.proofs.QuotientBounds.{next_product}
+use Rattle.spot_terms.proofs.Slots.{slots_rise, some_width}
 
 -- ---- least and greatest places
 
@@ -90,15 +92,12 @@ times_order c q width some l =
     let e : (q -ℤ c) *ℤ width ≡ q *ℤ width -ℤ c *ℤ width = ring (q ∷ c ∷ width ∷ []) ((var 0 ⊖ var 1) ⊗ var 2) ((var 0 ⊗ var 2) ⊖ (var 1 ⊗ var 2)) refl in
     omega (arith, ints, p, e)
 
-next_times : (c width : ℤ) → (c +ℤ pos 1) *ℤ width ≡ c *ℤ width +ℤ width
-next_times c width = ring (c ∷ width ∷ []) ((var 0 ⊕ num (pos 1)) ⊗ var 1) ((var 0 ⊗ var 1) ⊕ var 1) refl
-
 -- slots that meet places which aren't far off aren't far off
 pub near_met : (width least greatest c : ℤ) → pos 0 <ℤ width → nat_abs least ≤ 40_000_000_000_000 → nat_abs greatest ≤ 40_000_000_000_000 → Within (slot width least) (slot width greatest) c → IsNear width c
 near_met width least greatest c some h k w = record {
   low = under (c *ℤ width) (slot width greatest *ℤ width) greatest (times_order c (slot width greatest) width some w.high) (product_le_at greatest width (slot width greatest) some refl) k;
   high = over (c *ℤ width) (slot width least *ℤ width) least width (times_order (slot width least) c width some w.low)
-      (subst (λ (z : ℤ). least <ℤ z) (next_times (slot width least) width) (next_product_gt_at least width (slot width least) some refl)) h;
+      (subst (λ (z : ℤ). least <ℤ z) (next_product width (slot width least)) (next_product_gt_at least width (slot width least) some refl)) h;
 }
   where
     under : (z y g : ℤ) → z ≤ℤ y → y ≤ℤ g → nat_abs g ≤ 40_000_000_000_000 → z ≤ℤ pos 40_000_000_000_000
@@ -126,12 +125,12 @@ meets_within width lo hi vs w l h convex all =
     let order = places_order vs in
     let least_size = size_between lo hi (least_place vs) l h low (at_most_trans (least_place vs) (greatest_place vs) hi order high) in
     let greatest_size = size_between lo hi (greatest_place vs) l h (at_most_trans lo (least_place vs) (greatest_place vs) low order) high in
-    let slots = slot_order width (least_place vs) (greatest_place vs) some order in
+    let slots = slots_rise width (least_place vs) (greatest_place vs) some order in
     record {
       some = some;
-      low = slot_order width lo (least_place vs) some low;
+      low = slots_rise width lo (least_place vs) some low;
       order = slots;
-      high = slot_order width (greatest_place vs) hi some high;
+      high = slots_rise width (greatest_place vs) hi some high;
       near = λ j less. near_met width (least_place vs) (greatest_place vs) (slot width (least_place vs) +ℤ pos j) some least_size greatest_size (counted_slots (slot width (least_place vs)) (slot width (greatest_place vs)) j slots less);
     }
 

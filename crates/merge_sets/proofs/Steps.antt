@@ -24,10 +24,11 @@ use Rattle.merge_sets.specs.Cells.{AreSound, IsCleared, IsStep, IsTable, OfBoth,
 use Rattle.merge_sets.specs.Tables.{Adds, AreSoundIn, Holds, HoldsInCell, IsAddable, IsCellOf, PartsHold, Table, place_of}
 use Rattle.merge_sets.specs.declared.cells.Cell.{Cell}
 use Rattle.merge_sets.specs.declared.places.BoxSlots.{BoxSlots}
-use Rattle.merge_sets.proofs.BoxCells.{place_below, some_width}
+use Rattle.merge_sets.proofs.BoxCells.{place_below}
 use Rattle.merge_sets.proofs.Parts.{leave_states}
 use Rattle.merge_sets.proofs.PartSlots.{none_outside}
 use Rattle.merge_sets.proofs.SlotsMet.{slot_side}
+use Rattle.spot_terms.proofs.Slots.{some_width}
 
 abbrev pub StepOf : Type 0
 StepOf = Option (OuterBox × Grid × ℕ)

@@ -9,6 +9,7 @@ use Rattle.spot_terms.specs.Hull.{IsCornerList}
 use Rattle.spot_terms.specs.Pieces.{lowest, highest}
 use Rattle.spot_terms.specs.Whole.{SizeAtMost}
 use Rattle.spot_terms.specs.declared.plain.Pt.{Pt}
+use Rattle.spot_terms.proofs.Orders.{greater_itself}
 
 -- ---- corners
 
@@ -24,9 +25,6 @@ fold_next f a ps i d h =
 min_itself : (a : ℤ) → int_min a a ≡ a
 min_itself a = omega (arith, ints, clamps)
 
-max_itself : (a : ℤ) → int_max a a ≡ a
-max_itself a = omega (arith, ints, clamps)
-
 abbrev pub nowhere : Pt
 nowhere = record { x = pos 0; y = pos 0 }
 
@@ -36,7 +34,7 @@ low_is (p ∷ ps) h = ap (λ (a : ℤ). fold int_min a (ys_of ps)) (min_itself p
 
 pub high_is : (ps : List Pt) → 0 < length ps → fold int_max (get_or ps 0 nowhere).y (ys_of ps) ≡ highest ps
 high_is [] h = absurd (omega (arith, h))
-high_is (p ∷ ps) h = ap (λ (a : ℤ). fold int_max a (ys_of ps)) (max_itself p.y)
+high_is (p ∷ ps) h = ap (λ (a : ℤ). fold int_max a (ys_of ps)) (greater_itself p.y)
 
 pub has_corner : (ps : List Pt) → IsCornerList ps → 0 < length ps
 has_corner [] h = absurd h
@@ -54,9 +52,6 @@ fits_near z h = omega (arith, ints)
 
 pub fits_minus : (z : ℤ) → nat_abs z ≤ 100_000_000_000_000 → FitsSigned w64 (pos 0 -ℤ z)
 fits_minus z h = omega (arith, ints)
-
-pub minus_is : (z : ℤ) → pos 0 -ℤ z ≡ neg_ℤ z
-minus_is z = omega (arith, ints)
 
 pub two : (f : ℤ → ℤ → ℤ) (a b x y : ℤ) → a ≡ b → x ≡ y → f a x ≡ f b y
 two f a b x y e g = cc

@@ -13,7 +13,7 @@ use Rattle.spot_terms.specs.Reach.{interval_numbers}
 use Rattle.spot_terms.specs.declared.scenario.Fixed.{Fixed}
 use Rattle.spot_terms.specs.declared.scenario.Mover.{Mover}
 use Rattle.spot_terms.specs.declared.scenario.Scenario.{Scenario}
-use Rattle.spot_terms.proofs.ListLemmas.{pairwise_map, pairwise_length, below-from, numbers_from_length}
+use Rattle.spot_terms.proofs.ListLemmas.{pairwise_map, pairwise_length, below-from, numbers_from_length, filter_short}
 use Rattle.convex_poly.specs.declared.oct_numbers.OctNumbers.{OctNumbers}
 use Rattle.lane_occupancy.specs.Polygons.{polygon_of}
 use Rattle.participants.specs.Predictions.{IsParticipant, IsFixedOctagon, IsPrediction, AreOctagons, Occupancies}
@@ -104,14 +104,6 @@ has_pieces s steps o some h = record {
 }
 
 -- ---- how many participants there are
-
-pub filter_short : {X : Type 0} (t : X → Bool) (xs : List X) → length (filter t xs) ≤ length xs
-filter_short t [] = omega arith
-filter_short t (x ∷ xs) = let r = filter_short t xs in let k = by_test (t x) x (filter t xs) in omega (arith, r, k)
-  where
-    by_test : {X : Type 0} (b : Bool) (x : X) (xs : List X) → length (cond b (x ∷ xs) xs) ≤ length xs + 1
-    by_test true x xs = omega arith
-    by_test false x xs = omega arith
 
 -- no more than dynamic obstacles
 pub participants_few : {Y : Type 0} (R : Mover → Y → Type 0) (ms : List Mover) (ys : List Y) → Pairwise R (starting ms) ys → length ys ≤ length ms

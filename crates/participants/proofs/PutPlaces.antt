@@ -16,6 +16,7 @@ use Rattle.participants.specs.Pieces.{octagon_at, participant_pieces, cut_pieces
 use Rattle.participants.specs.Places.{piece_at, places_in, IsPlaceOf, nobody, no_polygon}
 use Rattle.participants.specs.declared.participant.Participant.{Participant}
 use Rattle.participants.specs.declared.places.Place.{Place}
+use Rattle.spot_terms.proofs.Orders.{true_not_false}
 
 -- ---- the pieces of one participant
 
@@ -81,10 +82,7 @@ module _ (participants : List Participant) (who : ℕ) (among : who < length par
       let place : Place = record { who = who; which = 0; first = 0 } in
       rw (e, free_pieces (slice_index_or participants who nobody) interval free, place_in interval old (record { who = who; which = 0; first = 0 }) (zero_early interval))
       (pairwise_push (IsPlaceOf participants interval) (places_in interval old) before (record { who = who; which = 0; first = 0 }) (octagon (octagon_at (slice_index_or participants who nobody) interval)) are
-      (record { among = among; which = λ t. absurd (clash (sym t ∙ free)); is = sym (free_piece (slice_index_or participants who nobody) interval 0 free) }))
-    where
-      clash : true ≡ false → ⊥
-      clash e = cc
+      (record { among = among; which = λ t. absurd (true_not_false _ t free); is = sym (free_piece (slice_index_or participants who nobody) interval 0 free) }))
 
   pub none_before : (old : List Place) → Follows participants interval old old (pieces_before (slice_index_or participants who nobody) interval 0)
   none_before old before are = subst (λ (ps : List Piece). Pairwise (IsPlaceOf participants interval) (places_in interval old) ps) (sym (append-nil before)) are

@@ -11,7 +11,7 @@ use Rattle.spot_terms.proofs.Places.{same_index}
 use Rattle.participants.specs.Places.{places_in, count_before, IsCounted, AreCounted, no_interval, PlaceTable}
 use Rattle.participants.specs.declared.places.Interval.{Interval}
 use Rattle.participants.specs.declared.places.Place.{Place}
-use Rattle.participants.proofs.PieceLists.{filter_short}
+use Rattle.spot_terms.proofs.ListLemmas.{filter_short}
 
 -- an item that passes stands at the rank of as many as pass before it
 pub rank_found : {X : Type 0} (test : X → Bool) (xs : List X) (i r : ℕ) (x : X) → i < length xs → x ≡ get_or xs i x → test x ≡ true → length (filter test (take i xs)) ≡ r → slice_get (filter test xs) r ≡ Some x

@@ -10,6 +10,7 @@ use Rattle.spot_terms.specs.Hull.{IsSupport}
 use Rattle.spot_terms.specs.Lists.{Pairwise}
 use Rattle.spot_terms.specs.Reach.{Normal, minus_one}
 use Rattle.spot_terms.proofs.Supports.{supports_are}
+use Rattle.spot_terms.proofs.Orders.{plus_minus}
 
 -- the growths of a step of k ticks with accelerations of at most a in size: of a speed, of a position or the way of
 -- (1, -k), and of the way of (2, -k)
@@ -61,11 +62,8 @@ child_numbers-are a k u vs = (
   ),
 )
   where
-    back : (z : ℤ) (g : ℕ) → z ≡ z +ℤ pos g -ℤ pos g
-    back z g = omega (arith, ints)
-
     each : (n : Normal) (g : ℕ) → IsSupport (u ∷ vs) n.0 (pos k *ℤ n.0 +ℤ n.1) (support (sheared k n) (u ∷ vs) +ℤ pos g -ℤ pos g)
-    each n g = subst (λ z. IsSupport (u ∷ vs) n.0 (pos k *ℤ n.0 +ℤ n.1) z) (back (support (sheared k n) (u ∷ vs)) g) (supports_are.greatest (sheared k n) u vs)
+    each n g = subst (λ z. IsSupport (u ∷ vs) n.0 (pos k *ℤ n.0 +ℤ n.1) z) (sym (plus_minus (support (sheared k n) (u ∷ vs)) (pos g))) (supports_are.greatest (sheared k n) u vs)
 
 -- eight child numbers are those of the definition
 pub numbers_are : (a : ℤ) (k : ℕ) (vs : List Pt) (f0 f1 f2 f3 f4 f5 f6 f7 : ℤ) → AreChildNumbers (nat_abs a) k vs (f0 ∷ f1 ∷ f2 ∷ f3 ∷ f4 ∷ f5 ∷ f6 ∷ f7 ∷ []) → (f0 ∷ f1 ∷ f2 ∷ f3 ∷ f4 ∷ f5 ∷ f6 ∷ f7 ∷ []) ≡ numbers.child_numbers a k vs

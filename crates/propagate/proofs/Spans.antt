@@ -1,5 +1,5 @@
 -- The spans of the corners, corner by corner.
-use Rattle.std.proofs.Common.{◌≡◌, ◌∙◌, ℕ, ◌+◌, ◌<◌, ◌≤◌, arith, ap, List, length, get_or}
+use Rattle.std.proofs.Common.{◌≡◌, ◌∙◌, ℕ, ◌+◌, ◌<◌, ◌≤◌, arith, ap, sym, List, length, get_or}
 use Rattle.std.specs.Int.{int_max, int_min}
 use Rattle.std.proofs.lemmas.Int.{ints, clamps}
 use lib.IntN.{ℤ, pos, neg_ℤ, ◌+ℤ◌, ◌*ℤ◌}
@@ -10,6 +10,7 @@ use Rattle.convex_poly.proofs.Supports.{IsGreatestUpTo, first_reached, next_reac
 use Rattle.propagate.specs.declared.ways.Span.{Span}
 use Rattle.propagate.specs.declared.ways.Ways.{Ways}
 use Rattle.propagate.specs.Ways.{IsSpan, AreWays}
+use Rattle.spot_terms.proofs.Orders.{greater_itself}
 
 -- ---- one normal
 
@@ -21,14 +22,11 @@ pub record IsSpanUpTo (vs : List Pt) (nx ny : ℤ) (i : ℕ) (s : Span) : Type 0
 negated : (nx ny : ℤ) (p : Pt) (r : ℤ) → r ≡ dot nx ny p → neg_ℤ r ≡ dot (neg_ℤ nx) (neg_ℤ ny) p
 negated nx ny p r e = omega (arith, ints, products)
 
-max_same : (g : ℤ) → g ≡ int_max g g
-max_same g = omega (arith, ints, clamps)
-
 negated_least : (l r m : ℤ) → m ≡ int_min l r → neg_ℤ m ≡ int_max (neg_ℤ l) (neg_ℤ r)
 negated_least l r m e = omega (arith, ints, clamps)
 
 first_greatest : (vs : List Pt) (nx ny g : ℤ) (d : Pt) → 0 < length vs → g ≡ dot nx ny (get_or vs 0 d) → IsGreatestUpTo vs nx ny 1 g
-first_greatest vs nx ny g d h e = next_reached vs nx ny 0 d g g g h (first_reached vs nx ny g d h e) e (max_same g)
+first_greatest vs nx ny g d h e = next_reached vs nx ny 0 d g g g h (first_reached vs nx ny g d h e) e (sym (greater_itself g))
 
 pub first_span : (vs : List Pt) (nx ny : ℤ) (d : Pt) (s : Span) (r : ℤ) → 0 < length vs → r ≡ dot nx ny (get_or vs 0 d) → s.least ≡ r → s.greatest ≡ r → IsSpanUpTo vs nx ny 1 s
 first_span vs nx ny d s r h e l g = record {

@@ -8,16 +8,14 @@ use Rattle.spot_terms.specs.Whole.{Within, square}
 use Rattle.spot_terms.specs.declared.plain.Pt.{Pt}
 use Rattle.convex_poly.specs.Runs.{IsSpanOf}
 use Rattle.replay_sets.specs.Halves.{IsHalf}
-
-by_below : (m n : ℕ) → (m < n) ⊎ (n ≤ m)
-by_below m n = grind arith
+use Rattle.spot_terms.proofs.Orders.{below_or_at_least}
 
 -- squares tell sizes
 pub below_square : (m h rest all : ℕ) → m * m + rest ≤ all → all < (h + 1) * (h + 1) + rest → m ≤ h
-below_square m h rest all a b = elim (by_below h m) [ inl less ↦ absurd (let k : (h + 1) * (h + 1) ≤ m * m = mul-le-mul (omega arith) (omega arith) in omega arith) | inr le ↦ le ]
+below_square m h rest all a b = elim (below_or_at_least h m) [ inl less ↦ absurd (let k : (h + 1) * (h + 1) ≤ m * m = mul-le-mul (omega arith) (omega arith) in omega arith) | inr le ↦ le ]
 
 greater_square : (a b : ℕ) → (max a b * max a b ≡ a * a) ⊎ (max a b * max a b ≡ b * b)
-greater_square a b = elim (by_below a b) [
+greater_square a b = elim (below_or_at_least a b) [
   | inl less ↦ inr (let e : max a b ≡ b = omega arith in ap (λ (n : ℕ). n * n) e)
   | inr le ↦ inl (let e : max a b ≡ a = omega arith in ap (λ (n : ℕ). n * n) e)
 ]

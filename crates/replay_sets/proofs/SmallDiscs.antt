@@ -7,7 +7,7 @@ use Rattle.spot_terms.specs.OccupiedPieces.{discs_of, fixed_disc, recorded_disc}
 use Rattle.spot_terms.specs.Ranges.{AreStatesInRange, IsFixedInRange, IsMoverInRange, IsStateInRange, recorded_count}
 use Rattle.spot_terms.specs.declared.scenario.Fixed.{Fixed}
 use Rattle.spot_terms.specs.declared.scenario.Mover.{Mover}
-use Rattle.spot_terms.proofs.ListLemmas.{all_append}
+use Rattle.spot_terms.proofs.ListLemmas.{all_append, filter_short}
 use Rattle.replay_sets.specs.Discs.{AreSmall, IsSmallDisc}
 
 module _ (radius : ℕ) (small : radius ≤ 150_000_000) (i : ℕ) where
@@ -27,20 +27,12 @@ module _ (radius : ℕ) (small : radius ≤ 150_000_000) (i : ℕ) where
   movers_small [] h k = tt
   movers_small (m ∷ ms) h k = all_append IsSmallDisc (discs_of radius i m) (flat_map (discs_of radius i) ms) (states_small m m.recorded h.0.inscribed k.0) (movers_small ms h.1 k.1)
 
-  filter_few : (states : List (ℕ × ℤ × ℤ)) → length (filter (λ (state : ℕ × ℤ × ℤ). state.0 == i) states) ≤ length states
-  filter_few [] = omega arith
-  filter_few (s ∷ states) = let r = filter_few states in let k = by_test (s.0 == i) (filter (λ (state : ℕ × ℤ × ℤ). state.0 == i) states) in omega (arith, r, k)
-    where
-      by_test : (b : Bool) (rest : List (ℕ × ℤ × ℤ)) → length (cond b (s ∷ rest) rest) ≤ length rest + 1
-      by_test true rest = omega arith
-      by_test false rest = omega arith
-
   movers_few : (ms : List Mover) → length (flat_map (discs_of radius i) ms) ≤ recorded_count ms
   movers_few [] = omega arith
   movers_few (m ∷ ms) =
       let a = length-append (discs_of radius i m) (flat_map (discs_of radius i) ms) in
       let b = length-map (filter (λ (state : ℕ × ℤ × ℤ). state.0 == i) m.recorded) (recorded_disc radius m) in
-      let c = filter_few m.recorded in let d = movers_few ms in omega (arith, a, b, c, d)
+      let c = filter_short (λ (state : ℕ × ℤ × ℤ). state.0 == i) m.recorded in let d = movers_few ms in omega (arith, a, b, c, d)
 
   pub step_small : (fs : List Fixed) (ms : List Mover) → AllByRecursion IsFixedInRange fs → AllByRecursion IsMoverInRange ms → AllByRecursion AreStatesInRange ms → length fs ≤ 4096 → recorded_count ms ≤ 67_108_864
       → AreSmall (map (fixed_disc radius) fs ++ flat_map (discs_of radius i) ms)

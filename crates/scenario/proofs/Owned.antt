@@ -16,6 +16,7 @@ use Rattle.scenario.proofs.Counts.{count_cons}
 use Rattle.scenario.proofs.Few.{Below, Same, next, none_below, all_below, all_in}
 use Rattle.scenario.proofs.Members.{in_filter_map, item_in, found_in}
 use Rattle.scenario.proofs.Rises.{in_filter}
+use Rattle.spot_terms.proofs.Orders.{true_not_false, next_is}
 
 -- ---- distinct numbers below a number are no more than it
 
@@ -52,10 +53,7 @@ below_few (suc m) xs d =
     let P : ℕ → Type 0 = λ k. Below k xs ≤ k in
     let rest = below_few m xs d in
     let one = distinct_same m xs d in
-    let more = next m xs in subst P (plus m) (omega (arith, rest, one, more))
-  where
-    plus : (m : ℕ) → m + 1 ≡ suc m
-    plus m = omega arith
+    let more = next m xs in subst P (sym (next_is m)) (omega (arith, rest, one, more))
 
 pub few_distinct : (m : ℕ) (xs : List ℕ) → AreDistinct xs → ((x : ℕ) → Includes xs x → x < m) → length xs ≤ m
 few_distinct m xs d below = let all = all_below xs m (λ k x l. below (get_or xs k x) (item_in xs k x l)) in let few = below_few m xs d in omega (arith, all, few)
@@ -105,10 +103,7 @@ one_name tree e a b other h k =
     let s : (element_in tree e).name ≡ a = (bytes_decides (element_in tree e).name a).0 h in
     let t : (element_in tree e).name ≡ b = (bytes_decides (element_in tree e).name b).0 k in
     let same : bytes_eq a b ≡ true = (bytes_decides a b).1 (sym s ∙ t) in
-    not_same (sym same ∙ other)
-  where
-    not_same : true ≡ false → ⊥
-    not_same e = cc
+    true_not_false (bytes_eq a b) same other
 
 -- ---- lists that each element has for itself
 

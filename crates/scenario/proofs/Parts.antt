@@ -17,7 +17,7 @@ use Rattle.scenario.specs.declared.shapes.Part.{Part}
 use Rattle.scenario.specs.declared.shapes.Part.TheVariants.{Circle, Rectangle, Polygon}
 use Rattle.scenario.proofs.Unique.{holds_one, root_one}
 use Rattle.scenario.proofs.Members.{in_last, in_more, find_nothing}
-use Rattle.spot_terms.proofs.Orders.{pos_injective}
+use Rattle.spot_terms.proofs.Orders.{pos_injective, true_not_false, at_most_greater_square}
 use Rattle.spot_terms.proofs.Unique.{least_one}
 use Rattle.scenario.proofs.Firsts.{no_both, two_ids}
 
@@ -31,9 +31,6 @@ distance_small a b r h k root =
 
 pub no_reach : (tree : List Element) → IsReach tree [] 0
 no_reach tree = record { holds = λ n p k h. absurd k; least = λ q h. omega arith }
-
-square_up : (r q m : ℕ) → q ≤ r * r → r ≤ m → q ≤ m * m
-square_up r q m h k = let p : r * r ≤ m * m = mul-le-mul k k in omega (arith, p)
 
 same_square : (tree : List Element) (x n : ℕ) (p q : Pt) (d : ℕ) → n ≡ x → HoldsPt tree x p → HoldsPt tree n q → square p.x + square p.y ≤ d → square q.x + square q.y ≤ d
 same_square tree x n p q d e h k le =
@@ -51,8 +48,8 @@ reach_more tree es i r d p h before at root =
     let P : List ℕ → Type 0 = λ l. IsReach tree l (max r d) in
     subst P (sym (take_more es i 0 h)) (record {
       holds = λ n q k here. elim (in_more (take i es) x n k) [
-        | inl l ↦ square_up r (square q.x + square q.y) (max r d) (before.holds n q l here) (omega arith)
-        | inr s ↦ same_square tree x n p q (max r d * max r d) s at here (square_up d (square p.x + square p.y) (max r d) root.enough (omega arith))
+        | inl l ↦ at_most_greater_square (square q.x + square q.y) r (max r d) (before.holds n q l here) (omega arith)
+        | inr s ↦ same_square tree x n p q (max r d * max r d) s at here (at_most_greater_square (square p.x + square p.y) d (max r d) root.enough (omega arith))
       ];
       least = λ q all.
           let a : r ≤ q = before.least q (λ n z l here. all n z (includes_front (take i es) (x ∷ []) n l) here) in
@@ -114,9 +111,6 @@ record IsUnion (A B C : ℕ → ℕ → Type 0) : Type 0 where
   split : (b s : ℕ) → C b s → A b s ⊎ B b s
   left : (b s : ℕ) → A b s → C b s
   right : (b s : ℕ) → B b s → C b s
-
-under : (a m : ℕ) (x : ℕ) → x ≤ a → a ≤ m → x ≤ m
-under a m x h k = omega arith
 
 attained : (P : ℕ → Type 0) (a b : ℕ) → P a → P b → P (max a b)
 attained P a b h k = elim (which a b) [ inl e ↦ subst P (sym e) h | inr e ↦ subst P (sym e) k ]
@@ -206,10 +200,7 @@ pub no_parts : (tree : List Element) (shape : ℕ) (f g h o : Option Radii) → 
     → IfNone g ((e : ℕ) → Includes (all_named tree (codes "rectangle") shape) e → ⊥) → IfNone h ((e : ℕ) → Includes (all_named tree (codes "polygon") shape) e → ⊥) → ⊥
 no_parts tree shape None None None o has e n a b c =
     let all = all_three (lacks tree shape) (codes "rectangle") (codes "circle") (codes "polygon") (none_named tree shape Rectangle b) (none_named tree shape Circle a) (none_named tree shape Polygon c) in
-    let some = has.some in true_false (all) some
-  where
-    true_false : {b : Bool} → b ≡ true → b ≡ false → ⊥
-    true_false e f = cc
+    let some = has.some in true_not_false _ (all) some
 no_parts tree shape None None (Some h) o has e n a b c = cc
 no_parts tree shape None (Some g) None o has e n a b c = cc
 no_parts tree shape None (Some g) (Some h) o has e n a b c = cc

@@ -15,6 +15,7 @@ use Rattle.spot_claims.specs.Scenario.{IsLane}
 use Rattle.scenario.specs.Lanes.{AddsLane, AreInRange}
 use Rattle.scenario.proofs.Accepts.{not_again}
 use Rattle.scenario.proofs.Members.{each_more}
+use Rattle.spot_terms.proofs.Orders.{true_not_false}
 
 -- ---- numbers that rise
 
@@ -46,10 +47,7 @@ in_filter p (y ∷ ys) x h = in_filter_by p y ys x (p y) (in_filter p ys x) refl
 filter_in_by : (p : ℕ → Bool) (y : ℕ) (ys : List ℕ) (x : ℕ) (b : Bool) → p y ≡ b → (x ≡ y) ⊎ Includes (filter p ys) x → p x ≡ true → Includes (cond b (y ∷ filter p ys) (filter p ys)) x
 filter_in_by p y ys x true e (inl s) k = inl s
 filter_in_by p y ys x true e (inr h) k = inr h
-filter_in_by p y ys x false e (inl s) k = absurd (let no : true ≡ false = sym k ∙ (ap p s ∙ e) in true_no no)
-  where
-    true_no : true ≡ false → ⊥
-    true_no e = cc
+filter_in_by p y ys x false e (inl s) k = absurd (true_not_false (p x) k (ap p s ∙ e))
 filter_in_by p y ys x false e (inr h) k = h
 
 pub filter_in : (p : ℕ → Bool) (xs : List ℕ) (x : ℕ) → Includes xs x → p x ≡ true → Includes (filter p xs) x

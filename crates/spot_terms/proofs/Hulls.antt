@@ -13,7 +13,7 @@ use Rattle.spot_terms.proofs.ListLemmas.{all_included, all_later, all_of, includ
 use Rattle.spot_terms.proofs.Products.{*ℤ_assoc, times_swap}
 use Rattle.spot_terms.proofs.Ring.{ring, var, num, ◌⊕◌, ◌⊖◌, ◌⊗◌}
 use Rattle.spot_terms.proofs.Mixes.{total, Mix, mix_none, mix_add, mix_scale, mix_to, mix_included, positive_times, Affine, mix_not_below, not_below_part}
-use Rattle.spot_terms.proofs.Orders.{product_not_negative, natural_of, difference_not_negative, at_most_of_difference}
+use Rattle.spot_terms.proofs.Orders.{product_not_negative, natural_of, difference_not_negative, at_most_of_difference, one_times}
 
 -- ---- weights of any length, and one weight for each corner
 
@@ -88,20 +88,17 @@ pub record MixOf (vs : List Pt) (q : Pt) : Type 0 where
   pub some : 0 < n
   pub mix : Mix vs n (pos n *ℤ q.x) (pos n *ℤ q.y)
 
-one_times : (z : ℤ) → z ≡ pos 1 *ℤ z
-one_times z = omega (arith, ints)
-
 pub hull_mix : (vs : List Pt) (q : Pt) → InHull vs q → MixOf vs q
 hull_mix vs q h = let m = hull_mix_at vs (whole_pt q) h in
-    record { n = m.n; some = m.some; mix = mix_to vs m.n m.n m.X m.Y _ _ refl (one_times m.X ∙ sym m.x) (one_times m.Y ∙ sym m.y) m.mix }
+    record { n = m.n; some = m.some; mix = mix_to vs m.n m.n m.X m.Y _ _ refl (sym (one_times m.X) ∙ sym m.x) (sym (one_times m.Y) ∙ sym m.y) m.mix }
 
 pub mix_hull : (vs : List Pt) (q : Pt) (W : ℕ) → 0 < W → Mix vs W (pos W *ℤ q.x) (pos W *ℤ q.y) → InHull vs q
-mix_hull vs q W h m = mix_hull_at vs (whole_pt q) (record { n = W; X = pos W *ℤ q.x; Y = pos W *ℤ q.y; some = h; mix = m; x = one_times (pos W *ℤ q.x); y = one_times (pos W *ℤ q.y) })
+mix_hull vs q W h m = mix_hull_at vs (whole_pt q) (record { n = W; X = pos W *ℤ q.x; Y = pos W *ℤ q.y; some = h; mix = m; x = sym (one_times (pos W *ℤ q.x)); y = sym (one_times (pos W *ℤ q.y)) })
 
 -- ---- members
 
 pub hull_included : (vs : List Pt) (u : Pt) → Includes vs u → InHull vs u
-hull_included vs u i = mix_hull vs u 1 (omega arith) (mix_to vs 1 1 u.x u.y (pos 1 *ℤ u.x) (pos 1 *ℤ u.y) refl (one_times u.x) (one_times u.y) (mix_included vs u i))
+hull_included vs u i = mix_hull vs u 1 (omega arith) (mix_to vs 1 1 u.x u.y (pos 1 *ℤ u.x) (pos 1 *ℤ u.y) refl (sym (one_times u.x)) (sym (one_times u.y)) (mix_included vs u i))
 
 pub hull_first : (u : Pt) (vs : List Pt) → InHull (u ∷ vs) u
 hull_first u vs = hull_included (u ∷ vs) u (inl refl)

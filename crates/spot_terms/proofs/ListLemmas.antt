@@ -1,5 +1,5 @@
 -- What is in a list, and lists in step.
-use Rattle.std.proofs.Common.{◌≡◌, ◌∙◌, ◌⊎◌, inl, inr, ℕ, zero, suc, ◌+◌, ◌<◌, Bool, true, false, cond, List, [], ◌∷◌, ◌++◌, map, filter, take, length, refl, sym, ap, subst, arith, add-zero, zero-add}
+use Rattle.std.proofs.Common.{◌≡◌, ◌∙◌, ◌⊎◌, inl, inr, ℕ, zero, suc, ◌+◌, ◌<◌, ◌≤◌, Bool, true, false, cond, List, [], ◌∷◌, ◌++◌, map, filter, take, length, refl, sym, ap, subst, arith, add-zero, zero-add}
 use Rattle.std.proofs.lemmas.Bool.{cases_lt}
 use Rattle.std.proofs.lemmas.List.{take_more}
 use Rattle.std.specs.Prelude.{slice_index_or}
@@ -162,3 +162,11 @@ pairwise_length R (x ∷ xs) (y ∷ ys) h = let k = pairwise_length R xs ys h.1 
 pub numbers_from_length : (m n : ℕ) → length (numbers_from m n) ≡ n
 numbers_from_length m zero = refl
 numbers_from_length m (suc n) = omega (arith, numbers_from_length (m + 1) n)
+
+pub filter_short : {X : Type 0} (test : X → Bool) (xs : List X) → length (filter test xs) ≤ length xs
+filter_short test [] = omega arith
+filter_short test (x ∷ xs) = let r = filter_short test xs in let k = one_at_most (test x) x (filter test xs) in omega (arith, r, k)
+  where
+    one_at_most : {X : Type 0} (b : Bool) (x : X) (xs : List X) → length (cond b (x ∷ xs) xs) ≤ length xs + 1
+    one_at_most true x xs = omega arith
+    one_at_most false x xs = omega arith

@@ -25,6 +25,13 @@ pub record Mix (vs : List Pt) (W : ℕ) (X Y : ℤ) : Type 0 where
   pub at_x : weighted (λ v. v.x) weights vs ≡ X
   pub at_y : weighted (λ v. v.y) weights vs ≡ Y
 
+-- no weight, no sum
+pub no_total : (f : Pt → ℤ) (ws : List ℕ) (vs : List Pt) → total ws vs ≡ 0 → weighted f ws vs ≡ pos 0
+no_total f [] vs h = refl
+no_total f (w ∷ ws) [] h = refl
+no_total f (zero ∷ ws) (v ∷ vs) h = let e : weighted f ws vs ≡ pos 0 = no_total f ws vs (omega (arith, h)) in omega (arith, ints, e)
+no_total f (suc w ∷ ws) (v ∷ vs) h = absurd (omega (arith, h))
+
 pub mix_none : (vs : List Pt) → Mix vs 0 (pos 0) (pos 0)
 mix_none vs = record { weights = []; at_w = refl; at_x = refl; at_y = refl }
 

@@ -1,7 +1,7 @@
 -- Orders, signs, sums and products of whole numbers: what many proofs need between two steps.
-use Rattle.std.proofs.Common.{◌≡◌, ◌≢◌, ℕ, zero, suc, ◌+◌, ◌*◌, ◌≤◌, ◌<◌, ◌⊎◌, inl, inr, arith, rules, refl, [], ◌∷◌, true, false}
+use Rattle.std.proofs.Common.{◌≡◌, ◌≢◌, ℕ, zero, suc, ◌+◌, ◌*◌, ◌≤◌, ◌<◌, ◌⊎◌, inl, inr, arith, rules, refl, [], ◌∷◌, Bool, true, false, mul-le-mul}
 use Rattle.std.specs.Prelude.{◌==◌, int_le, int_lt}
-use Rattle.std.specs.Int.{int_max}
+use Rattle.std.specs.Int.{int_max, int_min}
 use Rattle.std.proofs.lemmas.Bool.Decides.{nat_tests}
 use Rattle.std.proofs.lemmas.Int.{ints, clamps}
 use lib.IntN.{ℤ, pos, negsuc, neg_ℤ, ◌+ℤ◌, ◌-ℤ◌, ◌*ℤ◌}
@@ -55,6 +55,10 @@ at_most_not_above a b h k = omega (arith, ints)
 
 pub below_not_equal : (a b : ℤ) → a <ℤ b → a ≡ b → ⊥
 below_not_equal a b h e = omega (arith, ints)
+
+-- between two numbers of which the second isn't greater
+pub equal_between : (a x b : ℤ) → a ≤ℤ x → x ≤ℤ b → b ≤ℤ a → a ≡ x
+equal_between a x b h k l = omega (arith, ints, h, k, l)
 
 pub at_most_or_at_least : (a b : ℤ) → (a ≤ℤ b) ⊎ (b ≤ℤ a)
 at_most_or_at_least a b = grind (arith, ints)
@@ -118,7 +122,29 @@ zero_by_signs z h k = omega (arith, ints)
 pub opposite_order : (a b : ℤ) → a ≤ℤ b → (pos 0 -ℤ b) ≤ℤ (pos 0 -ℤ a)
 opposite_order a b h = omega (arith, ints)
 
+pub opposite_is : (z : ℤ) → pos 0 -ℤ z ≡ neg_ℤ z
+opposite_is z = omega (arith, ints)
+
+pub opposite_twice : (z : ℤ) → pos 0 -ℤ (pos 0 -ℤ z) ≡ z
+opposite_twice z = omega (arith, ints)
+
+-- the opposite of a number above 0 is below 0
+pub opposite_clash : (z w : ℤ) → z ≡ pos 0 -ℤ w → pos 0 ≤ℤ z → pos 0 <ℤ w → ⊥
+opposite_clash z w e h k = omega (arith, ints)
+
 -- ---- sums and differences
+
+pub plus_zero : (z : ℤ) → z +ℤ pos 0 ≡ z
+plus_zero z = omega (arith, ints)
+
+pub plus_minus : (z d : ℤ) → z +ℤ d -ℤ d ≡ z
+plus_minus z d = omega (arith, ints)
+
+pub minus_itself : (z : ℤ) → z -ℤ z ≡ pos 0
+minus_itself z = omega (arith, ints)
+
+pub sum_behind : (a s t r : ℤ) → s +ℤ t ≡ r → (a +ℤ s) +ℤ t ≡ a +ℤ r
+sum_behind a s t r e = omega (arith, ints)
 
 pub sum_swap : (a b : ℤ) → a +ℤ b ≡ b +ℤ a
 sum_swap a b = omega (arith, ints)
@@ -163,6 +189,16 @@ zero_times z = omega (arith, ints)
 
 pub times_zero : (z : ℤ) → z *ℤ pos 0 ≡ pos 0
 times_zero z = omega (arith, ints)
+
+pub one_times : (z : ℤ) → pos 1 *ℤ z ≡ z
+one_times z = omega (arith, ints)
+
+-- sums of which one number counts once, and the other not
+pub first_alone : (x y : ℤ) → pos 1 *ℤ x +ℤ pos 0 *ℤ y ≡ x
+first_alone x y = omega (arith, ints)
+
+pub second_alone : (x y : ℤ) → pos 0 *ℤ x +ℤ pos 1 *ℤ y ≡ y
+second_alone x y = omega (arith, ints)
 
 pub product_not_negative : (a b : ℤ) → pos 0 ≤ℤ a → pos 0 ≤ℤ b → pos 0 ≤ℤ (a *ℤ b)
 product_not_negative a b h k = grind (arith, ints)
@@ -216,10 +252,31 @@ below_or_at_least m n = grind arith
 pub below_or_here : (k n : ℕ) → k < n + 1 → (k < n) ⊎ (k ≡ n)
 below_or_here k n h = grind arith
 
+pub below_equal_or_above : (m n : ℕ) → (m < n) ⊎ ((m ≡ n) ⊎ (n < m))
+below_equal_or_above m n = grind arith
+
+pub next_is : (n : ℕ) → suc n ≡ n + 1
+next_is n = omega arith
+
 pub below_one_more : (k n : ℕ) → k < n → k < n + 1
 below_one_more k n h = omega arith
 
 -- ---- what tests answer
+
+pub true_not_false : (b : Bool) → b ≡ true → b ≡ false → ⊥
+true_not_false b h k = cc
+
+pub at_most_of_true : (a b : ℤ) → int_le a b ≡ true → a ≤ℤ b
+at_most_of_true a b h = search rules
+
+pub above_of_false : (a b : ℤ) → int_le a b ≡ false → b <ℤ a
+above_of_false a b h = search rules
+
+pub below_true : (a b : ℤ) → a <ℤ b → int_lt a b ≡ true
+below_true a b h = search (rules, h)
+
+pub at_least_false : (a b : ℤ) → b ≤ℤ a → int_lt a b ≡ false
+at_least_false a b h = search (rules, h)
 
 pub at_most_true : (a b : ℤ) → a ≤ℤ b → int_le a b ≡ true
 at_most_true a b h = search (rules, h)
@@ -242,6 +299,15 @@ not_zero_false n h = grind (arith, nat_tests)
 pub positive_of_false : (n : ℕ) → (n == 0) ≡ false → 0 < n
 positive_of_false n h = grind (arith, nat_tests)
 
+pub greater_itself : (a : ℤ) → int_max a a ≡ a
+greater_itself a = omega (arith, ints, clamps)
+
+pub greater_is : (a b m : ℤ) → m ≡ int_max a b → (a ≤ℤ m) × ((b ≤ℤ m) × ((m ≡ a) ⊎ (m ≡ b)))
+greater_is a b m e = grind (arith, ints)
+
+pub lesser_is : (a b m : ℤ) → m ≡ int_min a b → (m ≤ℤ a) × ((m ≤ℤ b) × ((m ≡ a) ⊎ (m ≡ b)))
+lesser_is a b m e = grind (arith, ints)
+
 pub greater_is_one : (a b : ℤ) → (int_max a b ≡ a) ⊎ (int_max a b ≡ b)
 greater_is_one a b = grind (arith, ints, clamps)
 
@@ -254,6 +320,16 @@ at_most_opposite a b h = omega (arith, ints)
 
 pub product_order : (a b m n : ℕ) → a ≤ m → b ≤ n → a * b ≤ m * n
 product_order a b m n h k = grind arith
+
+-- squares are in the order of their roots
+pub at_most_of_squares : (m n : ℕ) → m * m ≤ n * n → m ≤ n
+at_most_of_squares m n h = elim (below_or_at_least n m) [
+  | inl less ↦ absurd (let k : (n + 1) * (n + 1) ≤ m * m = mul-le-mul (omega arith) (omega arith) in omega (arith, h, k))
+  | inr le ↦ le
+]
+
+pub at_most_greater_square : (a r s : ℕ) → a ≤ r * r → r ≤ s → a ≤ s * s
+at_most_greater_square a r s h k = let p : r * r ≤ s * s = mul-le-mul k k in omega (arith, h, p)
 
 pub factor_order : (a b c : ℕ) → a ≤ b → a * c ≤ b * c
 factor_order a b c h = grind arith

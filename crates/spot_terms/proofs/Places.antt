@@ -2,7 +2,7 @@
 use Rattle.std.proofs.Common.{◌≡◌, ℕ, zero, suc, ◌+◌, ◌≤◌, ◌<◌, arith, refl, sym, subst, List, [], ◌∷◌, length, get_or, ◌⊎◌, inl, inr}
 use Rattle.std.specs.List.{AllByRecursion}
 use Rattle.spot_terms.specs.Lists.{Includes}
-use Rattle.spot_terms.proofs.Orders.{below_or_here}
+use Rattle.spot_terms.proofs.Orders.{below_or_here, below_equal_or_above}
 
 -- a read within a list is one read, whatever stands for a read past the end
 pub same_index : {X : Type 0} (vs : List X) (i k : ℕ) (d e : X) → k < length vs → k ≡ i → get_or vs k d ≡ get_or vs i e
@@ -32,10 +32,7 @@ place_of (v ∷ vs) u d (inl e) = (0, omega arith, sym e)
 place_of (v ∷ vs) u d (inr i) = let (k, l, e) = place_of vs u d i in (suc k, omega arith, e)
 
 pub compare3 : {P : Type 0} (k i : ℕ) → (k < i → P) → (k ≡ i → P) → (i < k → P) → P
-compare3 k i f g h = elim (dec k i) [ inl l ↦ f l | inr m ↦ elim m [ inl e ↦ g e | inr r ↦ h r ] ]
-  where
-    dec : (k i : ℕ) → (k < i) ⊎ ((k ≡ i) ⊎ (i < k))
-    dec k i = grind arith
+compare3 k i f g h = elim (below_equal_or_above k i) [ inl l ↦ f l | inr m ↦ elim m [ inl e ↦ g e | inr r ↦ h r ] ]
 
 -- what holds of the items below place i, and of the one at i, holds below i + 1
 pub below_and_here : {X : Type 0} (P : X → Type 0) (xs : List X) (i : ℕ) (d : X) → i < length xs → ((k : ℕ) (e : X) → k < i → P (get_or xs k e)) → P (get_or xs i d) → (k : ℕ) (e : X) → k < i + 1 → P (get_or xs k e)

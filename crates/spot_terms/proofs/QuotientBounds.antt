@@ -5,10 +5,10 @@ use Rattle.spot_terms.specs.Whole.{Within, quotient_floor, quotient_ceiling}
 use Rattle.spot_terms.proofs.Products.{products}
 use Rattle.spot_terms.proofs.Quotients.{below_factor, quotient_floor-is, quotient_ceiling-is}
 
-next_product : (b z : ℤ) → (z +ℤ pos 1) *ℤ b ≡ z *ℤ b +ℤ b
+pub next_product : (b z : ℤ) → (z +ℤ pos 1) *ℤ b ≡ z *ℤ b +ℤ b
 next_product b z = omega (arith, ints, products)
 
-previous_product : (b z : ℤ) → (z -ℤ pos 1) *ℤ b ≡ z *ℤ b -ℤ b
+pub previous_product : (b z : ℤ) → (z -ℤ pos 1) *ℤ b ≡ z *ℤ b -ℤ b
 previous_product b z = omega (arith, ints, products)
 
 pub floor_between : (a b low high : ℤ) → pos 0 <ℤ b → (low *ℤ b) ≤ℤ a → a ≤ℤ (high *ℤ b) → Within low high (quotient_floor a b)

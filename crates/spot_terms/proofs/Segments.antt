@@ -9,7 +9,7 @@ use Rattle.spot_terms.specs.Hull.{InHull}
 use Rattle.spot_terms.proofs.Ring.{ring, var, ◌⊕◌, ◌⊖◌, ◌⊗◌}
 use Rattle.spot_terms.proofs.Mixes.{Mix, mix_add, mix_scale, mix_to, mix_included, not_below_part}
 use Rattle.spot_terms.proofs.Hulls.{mix_hull}
-use Rattle.spot_terms.proofs.Orders.{at_most_trans, product_not_negative, sum_not_negative, natural_of}
+use Rattle.spot_terms.proofs.Orders.{at_most_trans, product_not_negative, sum_not_negative, natural_of, equal_between, at_most_of_difference, difference_not_negative}
 
 -- some weighted points of vs, of sum above 0, at the x of q, and at least as high
 pub record Above (vs : List Pt) (q : Pt) : Type 0 where
@@ -79,13 +79,10 @@ between_in_hull vs q u l =
 three : (z w u : ℤ) → pos 0 ≤ℤ z → pos 0 ≤ℤ w → pos 0 ≤ℤ u → pos 0 ≤ℤ ((z +ℤ w) +ℤ u)
 three z w u h k g = omega (arith, ints)
 
-gap_not_below : (z w : ℤ) → w ≤ℤ z → pos 0 ≤ℤ (z -ℤ w)
-gap_not_below z w h = omega (arith, ints)
-
 drawn : (b : ℕ) (y z : ℤ) → (pos b *ℤ y) ≤ℤ (pos b *ℤ z) → pos 0 ≤ℤ (pos b *ℤ (z -ℤ y))
 drawn b y z h =
     let e : pos b *ℤ (z -ℤ y) ≡ (pos b *ℤ z) -ℤ (pos b *ℤ y) = ring (pos b ∷ y ∷ z ∷ []) (var 0 ⊗ (var 2 ⊖ var 1)) ((var 0 ⊗ var 2) ⊖ (var 0 ⊗ var 1)) refl in
-    rw e (gap_not_below (pos b *ℤ z) (pos b *ℤ y) h)
+    rw e (difference_not_negative (pos b *ℤ y) (pos b *ℤ z) h)
 
 mean_of : (a x b : ℤ) → ((b -ℤ x) *ℤ a) +ℤ ((x -ℤ a) *ℤ b) ≡ ((b -ℤ x) +ℤ (x -ℤ a)) *ℤ x
 mean_of a x b = ring (a ∷ x ∷ b ∷ []) (((var 2 ⊖ var 1) ⊗ var 0) ⊕ ((var 1 ⊖ var 0) ⊗ var 2)) (((var 2 ⊖ var 1) ⊕ (var 1 ⊖ var 0)) ⊗ var 1) refl
@@ -102,19 +99,13 @@ ends_above : (s t : ℕ) (xa ya x y xb yb : ℤ) → xb -ℤ x ≡ pos s → x -
 ends_above s t xa ya x y xb yb hs ht h =
     let g : pos 0 ≤ℤ (((pos s *ℤ ya) +ℤ (pos t *ℤ yb)) -ℤ ((pos s +ℤ pos t) *ℤ y)) =
     subst (λ z. pos 0 ≤ℤ (((pos s *ℤ ya) +ℤ (z *ℤ yb)) -ℤ ((pos s +ℤ z) *ℤ y))) ht (subst (λ z. pos 0 ≤ℤ (((z *ℤ ya) +ℤ ((x -ℤ xa) *ℤ yb)) -ℤ ((z +ℤ (x -ℤ xa)) *ℤ y))) hs h) in
-    rw (sum_of s t) (undo _ _ g)
-  where
-    undo : (z w : ℤ) → pos 0 ≤ℤ (z -ℤ w) → w ≤ℤ z
-    undo z w h = omega (arith, ints)
+    rw (sum_of s t) (at_most_of_difference _ _ g)
 
 ends_below : (s t : ℕ) (xa ya x y xb yb : ℤ) → xb -ℤ x ≡ pos s → x -ℤ xa ≡ pos t → pos 0 ≤ℤ ((((xb -ℤ x) +ℤ (x -ℤ xa)) *ℤ y) -ℤ (((xb -ℤ x) *ℤ ya) +ℤ ((x -ℤ xa) *ℤ yb))) → ((pos s *ℤ ya) +ℤ (pos t *ℤ yb)) ≤ℤ (pos (s * 1 + t * 1) *ℤ y)
 ends_below s t xa ya x y xb yb hs ht h =
     let g : pos 0 ≤ℤ (((pos s +ℤ pos t) *ℤ y) -ℤ ((pos s *ℤ ya) +ℤ (pos t *ℤ yb))) =
     subst (λ z. pos 0 ≤ℤ (((pos s +ℤ z) *ℤ y) -ℤ ((pos s *ℤ ya) +ℤ (z *ℤ yb)))) ht (subst (λ z. pos 0 ≤ℤ (((z +ℤ (x -ℤ xa)) *ℤ y) -ℤ ((z *ℤ ya) +ℤ ((x -ℤ xa) *ℤ yb)))) hs h) in
-    rw (sum_of s t) (undo _ _ g)
-  where
-    undo : (z w : ℤ) → pos 0 ≤ℤ (z -ℤ w) → w ≤ℤ z
-    undo z w h = omega (arith, ints)
+    rw (sum_of s t) (at_most_of_difference _ _ g)
 
 line_above : (b xa ya x y xb yb m f : ℤ) → b *ℤ ((((xb -ℤ x) *ℤ ya) +ℤ ((x -ℤ xa) *ℤ yb)) -ℤ (((xb -ℤ x) +ℤ (x -ℤ xa)) *ℤ y)) ≡ (((xb -ℤ x) *ℤ ((b *ℤ ya) -ℤ ((m *ℤ xa) +ℤ f))) +ℤ ((x -ℤ xa) *ℤ ((b *ℤ yb) -ℤ ((m *ℤ xb) +ℤ f)))) +ℤ (((xb -ℤ x) +ℤ (x -ℤ xa)) *ℤ (((m *ℤ x) +ℤ f) -ℤ (b *ℤ y)))
 line_above b xa ya x y xb yb m f =
@@ -144,14 +135,11 @@ segment_above vs A B q b m f hasA hasB left right some hq ha hb =
       y = A.y;
       some = omega arith;
       mix = mix_to vs _ _ _ _ _ _ refl (same_x A.x q.x B.x left right narrow) refl (mix_included vs A hasA);
-      high = alone b A.x A.y q.x q.y m f some (same_at A.x q.x B.x left right narrow) hq ha;
+      high = alone b A.x A.y q.x q.y m f some (equal_between A.x q.x B.x left right narrow) hq ha;
     })
   where
     same_x : (a x b : ℤ) → a ≤ℤ x → x ≤ℤ b → b ≤ℤ a → a ≡ pos 1 *ℤ x
     same_x a x b h k g = omega (arith, ints)
-
-    same_at : (a x b : ℤ) → a ≤ℤ x → x ≤ℤ b → b ≤ℤ a → a ≡ x
-    same_at a x b h k g = omega (arith, ints)
 
     wide_sum : (s t : ℕ) (a b x : ℤ) → a <ℤ b → b -ℤ x ≡ pos s → x -ℤ a ≡ pos t → 0 < s + t
     wide_sum s t a b x h k g = omega (arith, ints)
@@ -170,7 +158,7 @@ segment_above vs A B q b m f hasA hasB left right some hq ha hb =
       mix = mix_to vs _ _ _ _ _ _ refl (mean_above s t A.x q.x B.x hs ht) refl
           (mix_add vs _ _ _ _ _ _ (mix_scale vs s 1 _ _ (mix_included vs A hasA)) (mix_scale vs t 1 _ _ (mix_included vs B hasB)));
       high = ends_above s t A.x A.y q.x q.y B.x B.y hs ht
-          (chord_above b A.x A.y q.x q.y B.x B.y m f some (gap_not_below B.x q.x right) (gap_not_below q.x A.x left) (gap_not_below _ _ ha) (gap_not_below _ _ hb) (gap_not_below _ _ hq));
+          (chord_above b A.x A.y q.x q.y B.x B.y m f some (difference_not_negative q.x B.x right) (difference_not_negative A.x q.x left) (difference_not_negative _ _ ha) (difference_not_negative _ _ hb) (difference_not_negative _ _ hq));
     }
 
 line_below : (b xa ya x y xb yb m f : ℤ) → b *ℤ ((((xb -ℤ x) +ℤ (x -ℤ xa)) *ℤ y) -ℤ (((xb -ℤ x) *ℤ ya) +ℤ ((x -ℤ xa) *ℤ yb))) ≡ (((xb -ℤ x) *ℤ (((m *ℤ xa) +ℤ f) -ℤ (b *ℤ ya))) +ℤ ((x -ℤ xa) *ℤ (((m *ℤ xb) +ℤ f) -ℤ (b *ℤ yb)))) +ℤ (((xb -ℤ x) +ℤ (x -ℤ xa)) *ℤ ((b *ℤ y) -ℤ ((m *ℤ x) +ℤ f)))
@@ -201,14 +189,11 @@ segment_below vs A B q b m f hasA hasB left right some hq ha hb =
       y = A.y;
       some = omega arith;
       mix = mix_to vs _ _ _ _ _ _ refl (same_x A.x q.x B.x left right narrow) refl (mix_included vs A hasA);
-      low = alone b A.x A.y q.x q.y m f some (same_at A.x q.x B.x left right narrow) hq ha;
+      low = alone b A.x A.y q.x q.y m f some (equal_between A.x q.x B.x left right narrow) hq ha;
     })
   where
     same_x : (a x b : ℤ) → a ≤ℤ x → x ≤ℤ b → b ≤ℤ a → a ≡ pos 1 *ℤ x
     same_x a x b h k g = omega (arith, ints)
-
-    same_at : (a x b : ℤ) → a ≤ℤ x → x ≤ℤ b → b ≤ℤ a → a ≡ x
-    same_at a x b h k g = omega (arith, ints)
 
     wide_sum : (s t : ℕ) (a b x : ℤ) → a <ℤ b → b -ℤ x ≡ pos s → x -ℤ a ≡ pos t → 0 < s + t
     wide_sum s t a b x h k g = omega (arith, ints)
@@ -227,5 +212,5 @@ segment_below vs A B q b m f hasA hasB left right some hq ha hb =
       mix = mix_to vs _ _ _ _ _ _ refl (mean_above s t A.x q.x B.x hs ht) refl
           (mix_add vs _ _ _ _ _ _ (mix_scale vs s 1 _ _ (mix_included vs A hasA)) (mix_scale vs t 1 _ _ (mix_included vs B hasB)));
       low = ends_below s t A.x A.y q.x q.y B.x B.y hs ht
-          (chord_below b A.x A.y q.x q.y B.x B.y m f some (gap_not_below B.x q.x right) (gap_not_below q.x A.x left) (gap_not_below _ _ ha) (gap_not_below _ _ hb) (gap_not_below _ _ hq));
+          (chord_below b A.x A.y q.x q.y B.x B.y m f some (difference_not_negative q.x B.x right) (difference_not_negative A.x q.x left) (difference_not_negative _ _ ha) (difference_not_negative _ _ hb) (difference_not_negative _ _ hq));
     }

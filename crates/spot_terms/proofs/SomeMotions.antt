@@ -17,11 +17,9 @@ use Rattle.spot_terms.specs.declared.plain.Pt.{Pt}
 use Rattle.spot_terms.specs.declared.plain.VBox.{VBox}
 use Rattle.spot_terms.proofs.HullLaws.{hull_laws}
 use Rattle.spot_terms.specs.SomeMotions.{state, steady, point, right_lane, left_lane, two_lanes, car, DrivesOver, staying, staying_trip, going_ahead, ahead_trip, going_aside, aside_trip, end_numbers, at_origin, rear, EndIsTooFar, MotionsExist}
+use Rattle.spot_terms.proofs.Orders.{minus_itself}
 
 -- ---- bodies that keep their velocity
-
-no_change : (z : ℤ) → (z -ℤ z) ≡ pos 0
-no_change z = omega (arith, ints)
 
 keeps_pace : (p v : ℤ) → Ticks p v (p +ℤ v) v
 keeps_pace p v = omega (arith, ints)
@@ -30,15 +28,15 @@ planar_tick : (a : ℤ) (p w : Pt) → PlanarTick a (state p w) (state (add_pt p
 planar_tick a p w = record {
   x = keeps_pace p.x w.x;
   y = keeps_pace p.y w.y;
-  bounded = rw (no_change w.x, no_change w.y) (omega arith);
+  bounded = rw (minus_itself w.x, minus_itself w.y) (omega arith);
 }
 
 ego_tick : (a : ℤ) (p w : Pt) → EgoTick a (state p w) (state (add_pt p w) w)
 ego_tick a p w = record {
   x = keeps_pace p.x w.x;
   y = keeps_pace p.y w.y;
-  x_bounded = rw (no_change w.x) (omega arith);
-  y_bounded = rw (no_change w.y) (omega arith);
+  x_bounded = rw (minus_itself w.x) (omega arith);
+  y_bounded = rw (minus_itself w.y) (omega arith);
 }
 
 steps : (step : State → State → Type 0) (bound : State → Type 0) (w : Pt) → ((p : Pt) → step (state p w) (state (add_pt p w) w)) → ((p : Pt) → bound (state p w)) → (p : Pt) (n : ℕ) → Steps step bound (steady p w n)

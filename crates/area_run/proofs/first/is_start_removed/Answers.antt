@@ -3,8 +3,8 @@ use Rattle.std.specs.Prelude.{IsTrue}
 use Rattle.spot_terms.specs.Frames.{at}
 use Rattle.spot_terms.specs.Grid.{slot, slot_high, slot_low}
 use Rattle.carve.proofs.RowPlaces.{fits_place}
-use Rattle.area_run.proofs.LimitSteps.{last_or_before}
 use Rattle.area_run.proofs.Starting.{both_ends}
+use Rattle.spot_terms.proofs.Orders.{below_or_here}
 use Rattle.area_run.proofs.first.is_start_removed.Goals as goal
 
 pub returns-then-is_across : goal.returns-then-is_across
@@ -30,7 +30,7 @@ loop-piece-preserved g c =
     let high : to_z w64 (of_z w64 c.start_row-low.result.1) ≡ slot_high c.args.plan.now.grid.g (slot c.args.plan.now.grid.g c.args.plan.now.s.p.y) = to_z-of_z fits_high ∙ c.start_row-low.ensures.high in
     let same_x : to_z w64 (of_z w64 c.args.plan.now.s.p.x) ≡ c.args.plan.now.s.p.x = to_z-of_z fits_x in
     record {
-      none = λ p l h k. elim (last_or_before c.loop-piece.piece p l) [
+      none = λ p l h k. elim (below_or_here p c.loop-piece.piece l) [
         | inl less ↦ c.loop-piece.invariant.none p less h k
         | inr same ↦ clash (c.if-is_across.ensures.1 (both_ends (g.O.Occupied.hits c.args.o.now 0 c.loop-piece.piece) _ _ _ c.args.plan.now.s.p.x _ _ (sym same_x) refl refl
             (subst (λ (q : ℕ). g.O.Occupied.hits c.args.o.now 0 q (at c.args.plan.now.s.p.x (to_z w64 (of_z w64 c.start_row-low.result.0)))) same h, subst (λ (q : ℕ). g.O.Occupied.hits c.args.o.now 0 q (at c.args.plan.now.s.p.x (to_z w64 (of_z w64 c.start_row-low.result.1)))) same k)))

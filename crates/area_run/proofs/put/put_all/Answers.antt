@@ -8,14 +8,12 @@ use Rattle.carve.proofs.RowPlaces.{fits_place, fits_wide}
 use Rattle.area_run.specs.Stages.{Advances, HasRoom, HasSetsBefore}
 use Rattle.area_run.proofs.Putting.{column_put, sets_before_at}
 use Rattle.area_run.proofs.RowCodes.{read, number_back, number_fits, left_small, among_columns, behind_columns}
+use Rattle.spot_terms.proofs.Orders.{plus_zero}
 use Rattle.area_run.proofs.put.put_all.Goals as goal
-
-start_here : (z : ℤ) → z +ℤ pos 0 ≡ z
-start_here z = omega (arith, ints)
 
 pub loop-i-init : goal.loop-i-init
 loop-i-init g c = record {
-  advances = λ before filled sets. subst (λ (z : ℤ). Rattle.area_laws.specs.CellSets.AreSetsBefore (Rattle.area_run.specs.Plans.course_of c.args.at.now.plan) c.args.at.now.step before (g.O.Occupied.count c.args.at.now.o.now c.args.at.now.step) (g.O.Occupied.hits c.args.at.now.o.now c.args.at.now.step) z (slot c.args.at.now.plan.grid.g c.args.at.now.b.ylo) c.args.out.now.sets) (sym (start_here _)) sets;
+  advances = λ before filled sets. subst (λ (z : ℤ). Rattle.area_laws.specs.CellSets.AreSetsBefore (Rattle.area_run.specs.Plans.course_of c.args.at.now.plan) c.args.at.now.step before (g.O.Occupied.count c.args.at.now.o.now c.args.at.now.step) (g.O.Occupied.hits c.args.at.now.o.now c.args.at.now.step) z (slot c.args.at.now.plan.grid.g c.args.at.now.b.ylo) c.args.out.now.sets) (sym (plus_zero _)) sets;
   room = refl;
 }
 

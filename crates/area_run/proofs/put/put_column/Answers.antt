@@ -10,14 +10,12 @@ use Rattle.area_run.specs.Rows.{AreRunsOf}
 use Rattle.area_run.specs.Stages.{Advances, HasCellRoom, HasSetsBefore}
 use Rattle.area_run.proofs.Putting.{advance_none, row_put, cell_room}
 use Rattle.area_run.proofs.RowCodes.{read, number_back, number_fits, low_small, rows_few, rows_counted, cell_in, order_of, column_over}
+use Rattle.spot_terms.proofs.Orders.{plus_zero}
 use Rattle.area_run.proofs.put.put_column.Goals as goal
-
-start_here : (z : ℤ) → z +ℤ pos 0 ≡ z
-start_here z = omega (arith, ints)
 
 pub loop-j-init : goal.loop-j-init
 loop-j-init g c = record {
-  advances = advance_none c.args.at.now.plan c.args.at.now.step (g.O.Occupied.count c.args.at.now.o.now c.args.at.now.step) (g.O.Occupied.hits c.args.at.now.o.now c.args.at.now.step) (g.O.Occupied.range c.args.at.now.o.now c.args.at.now.step) c.args.table.now c.requires.stage.plan_is.grid (to_z w64 (of_z w64 c.args.col)) (slot c.args.at.now.plan.grid.g c.args.at.now.b.ylo) _ c.args.out.now.sets (start_here _);
+  advances = advance_none c.args.at.now.plan c.args.at.now.step (g.O.Occupied.count c.args.at.now.o.now c.args.at.now.step) (g.O.Occupied.hits c.args.at.now.o.now c.args.at.now.step) (g.O.Occupied.range c.args.at.now.o.now c.args.at.now.step) c.args.table.now c.requires.stage.plan_is.grid (to_z w64 (of_z w64 c.args.col)) (slot c.args.at.now.plan.grid.g c.args.at.now.b.ylo) _ c.args.out.now.sets (plus_zero _);
   room = refl;
 }
 

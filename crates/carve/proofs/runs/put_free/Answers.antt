@@ -7,16 +7,13 @@ use Rattle.carve.specs.declared.runs.Span.{Span}
 use Rattle.carve.proofs.Founds.{nothing_found, found_over, found_run, found_all, found_covers, found_few, ends_later, has_room, low_le}
 use Rattle.carve.proofs.runs.put_free.Goals as goal
 use Rattle.carve.proofs.runs.put_free.Goals.{else-i-spans-via-then-i-spans+else-spans-i, else-i-spans-via-else-i-spans}
-use Rattle.spot_terms.proofs.Orders.{below_of_true}
+use Rattle.spot_terms.proofs.Orders.{below_of_true, above_of_false}
 
 above : (a b : ℤ) → int_lt a b ≡ false → b ≤ℤ a
 above a b h = search rules
 
 columns_of : (first last : ℤ) → first ≤ℤ last → (n : ℕ) × (pos n ≡ last -ℤ first +ℤ pos 1)
 columns_of first last h = (nat_abs (last -ℤ first +ℤ pos 1), omega (arith, ints))
-
-not_at_most : (a b : ℤ) → int_le a b ≡ false → b <ℤ a
-not_at_most a b h = search rules
 
 start : (spans : List Span) (w first last end at : ℤ) (runs : List (ℤ × ℤ)) → pos 0 <ℤ w → AreSpans spans → first ≤ℤ last → end ≡ slot_low w (last +ℤ pos 1) → at ≡ slot_low w first → runs ≡ [] → AreFoundBefore spans w first end at 0 runs
 start spans w first last end at runs wide are ordered is_end is_at none =
@@ -108,7 +105,7 @@ push_run-requires-clause-to c =
     let fits_run : FitsSigned w64 c.end_of_run-next.result = record { sfits = c.end_of_run-next.type_inv } in
     let ends : IsEndOfRun c.args.spans.now c.loop-at.i c.args.w (to_z w64 c.loop-at.at-bits) c.border_before-end.result c.end_of_run-next.result = search (rules, c.end_of_run-next.ensures) in
     let ahead : c.loop-at.i < length c.args.spans.now → to_z w64 c.loop-at.at-bits <ℤ (span_at c.args.spans.now c.loop-at.i).first = λ listed. elim c.else-i-spans.branch [
-      | else-i-spans-via-then-i-spans+else-spans-i w ↦ not_at_most (span_at c.args.spans.now c.loop-at.i).first (to_z w64 c.loop-at.at-bits) (search (rules, w.if-spans-i.false))
+      | else-i-spans-via-then-i-spans+else-spans-i w ↦ above_of_false (span_at c.args.spans.now c.loop-at.i).first (to_z w64 c.loop-at.at-bits) (search (rules, w.if-spans-i.false))
       | else-i-spans-via-else-i-spans w ↦ absurd (omega (arith, w.if-i-spans.false))
     ] in
     let later : to_z w64 c.loop-at.at-bits <ℤ c.end_of_run-next.result = ends_later c.args.spans.now c.args.w c.args.first c.border_before-end.result wide c.requires.spans (to_z w64 c.loop-at.at-bits) c.end_of_run-next.result c.loop-at.i before ahead ends in
@@ -126,7 +123,7 @@ push_run-requires-clause-room c =
     let found : AreFoundBefore c.args.spans.now c.args.w c.args.first c.border_before-end.result (to_z w64 c.loop-at.at-bits) c.loop-at.i c.loop-at.free.items = simp to_z-of_z at c.loop-at.invariant.found in
     let before : to_z w64 c.loop-at.at-bits <ℤ c.border_before-end.result = below_of_true _ _ (simp to_z-of_z at c.loop-at-test.true) in
     let ahead : c.loop-at.i < length c.args.spans.now → to_z w64 c.loop-at.at-bits <ℤ (span_at c.args.spans.now c.loop-at.i).first = λ listed. elim c.else-i-spans.branch [
-      | else-i-spans-via-then-i-spans+else-spans-i w ↦ not_at_most (span_at c.args.spans.now c.loop-at.i).first (to_z w64 c.loop-at.at-bits) (search (rules, w.if-spans-i.false))
+      | else-i-spans-via-then-i-spans+else-spans-i w ↦ above_of_false (span_at c.args.spans.now c.loop-at.i).first (to_z w64 c.loop-at.at-bits) (search (rules, w.if-spans-i.false))
       | else-i-spans-via-else-i-spans w ↦ absurd (omega (arith, w.if-i-spans.false))
     ] in
     let columns = columns_of c.args.first c.args.last c.requires.ordered in
@@ -148,7 +145,7 @@ loop-at-smaller c =
     let fits_run : FitsSigned w64 c.end_of_run-next.result = record { sfits = c.end_of_run-next.type_inv } in
     let ends : IsEndOfRun c.args.spans.now c.loop-at.i c.args.w (to_z w64 c.loop-at.at-bits) c.border_before-end.result c.end_of_run-next.result = search (rules, c.end_of_run-next.ensures) in
     let ahead : c.loop-at.i < length c.args.spans.now → to_z w64 c.loop-at.at-bits <ℤ (span_at c.args.spans.now c.loop-at.i).first = λ listed. elim c.else-i-spans.branch [
-      | else-i-spans-via-then-i-spans+else-spans-i w ↦ not_at_most (span_at c.args.spans.now c.loop-at.i).first (to_z w64 c.loop-at.at-bits) (search (rules, w.if-spans-i.false))
+      | else-i-spans-via-then-i-spans+else-spans-i w ↦ above_of_false (span_at c.args.spans.now c.loop-at.i).first (to_z w64 c.loop-at.at-bits) (search (rules, w.if-spans-i.false))
       | else-i-spans-via-else-i-spans w ↦ absurd (omega (arith, w.if-i-spans.false))
     ] in
     let later : to_z w64 c.loop-at.at-bits <ℤ c.end_of_run-next.result = ends_later c.args.spans.now c.args.w c.args.first c.border_before-end.result wide c.requires.spans (to_z w64 c.loop-at.at-bits) c.end_of_run-next.result c.loop-at.i before ahead ends in
@@ -168,7 +165,7 @@ loop-at-preserved c =
     let fits_run : FitsSigned w64 c.end_of_run-next.result = record { sfits = c.end_of_run-next.type_inv } in
     let ends : IsEndOfRun c.args.spans.now c.loop-at.i c.args.w (to_z w64 c.loop-at.at-bits) c.border_before-end.result c.end_of_run-next.result = search (rules, c.end_of_run-next.ensures) in
     let ahead : c.loop-at.i < length c.args.spans.now → to_z w64 c.loop-at.at-bits <ℤ (span_at c.args.spans.now c.loop-at.i).first = λ listed. elim c.else-i-spans.branch [
-      | else-i-spans-via-then-i-spans+else-spans-i w ↦ not_at_most (span_at c.args.spans.now c.loop-at.i).first (to_z w64 c.loop-at.at-bits) (search (rules, w.if-spans-i.false))
+      | else-i-spans-via-then-i-spans+else-spans-i w ↦ above_of_false (span_at c.args.spans.now c.loop-at.i).first (to_z w64 c.loop-at.at-bits) (search (rules, w.if-spans-i.false))
       | else-i-spans-via-else-i-spans w ↦ absurd (omega (arith, w.if-i-spans.false))
     ] in
     let items : c.push_run.new.free.items ≡ c.loop-at.free.items ++ (to_z w64 c.loop-at.at-bits, c.end_of_run-next.result -ℤ pos 1) ∷ [] = simp to_z-of_z at c.push_run.ensures.items in

@@ -3,6 +3,7 @@ use Rattle.std.proofs.lemmas.Int.{ints}
 use Rattle.std.specs.Int.{w128, w64}
 use Rattle.spot_terms.specs.Directions.{rough_sum}
 use Rattle.heading.proofs.Bounds.{sine_sum_within}
+use Rattle.spot_terms.proofs.Orders.{opposite_is}
 use Rattle.heading.proofs.series.sine_of.Goals as goal
 use Rattle.heading.proofs.series.sine_of.Goals.{After-alternating_sum-sum}
 
@@ -15,9 +16,6 @@ value c =
 small : (c : After-alternating_sum-sum) → nat_abs c.alternating_sum-sum.result ≤ 2 * 10 ^ 18 + 231
 small c = rw (value c) (sine_sum_within (nat_abs c.args.angle) c.requires)
 
-opposite : (x : ℤ) → pos 0 -ℤ x ≡ neg_ℤ x
-opposite x = omega (arith, ints)
-
 pub overflow_sub-result : goal.overflow_sub-result
 overflow_sub-result c = let bound = small (goal.at.overflow_sub-result c).After-alternating_sum-sum in omega (arith, ints)
 
@@ -29,7 +27,7 @@ returns-then-angle-lt0-clause-value c =
     let sum_fits : FitsSigned w128 c.alternating_sum-sum.result = search rules in
     let negative_fits : FitsSigned w128 (neg_ℤ c.alternating_sum-sum.result) = omega (arith, ints) in
     let is_negative = simp to_z-of_z at c.if-angle-lt0.true in
-    rw is_negative (simp (to_z-of_z, opposite) (rw (← value d) refl))
+    rw is_negative (simp (to_z-of_z, opposite_is) (rw (← value d) refl))
 
 pub returns-then-angle-lt0-clause-small : goal.returns-then-angle-lt0-clause-small
 returns-then-angle-lt0-clause-small c = let bound = small (goal.at.returns-then-angle-lt0-clause-small c).After-alternating_sum-sum in omega (arith, ints)

@@ -2,6 +2,7 @@ use Rattle.std.proofs.Common.{◌≡◌, ◌∙◌, ◌<◌, ◌≤◌, ℕ, Boo
 use Rattle.std.specs.Prelude.{pos}
 use Rattle.lane_paths.specs.Relaxations.{size_of}
 use Rattle.lane_paths.proofs.ShortestLengthLaws.{taken, taken_within, taken_places, taken_less, passed_over, gone_on, places_same}
+use Rattle.spot_terms.proofs.Orders.{true_not_false}
 use Rattle.lane_paths.proofs.links.relax_next.Goals as goal
 
 pub returns-in_default-clause-places : goal.returns-in_default-clause-places
@@ -21,10 +22,7 @@ returns-then-not-is_current-clause-less c = λ e. taken_less c.in-Some.so_far c.
 
 pub returns-then-not-is_current-clause-under_way : goal.returns-then-not-is_current-clause-under_way
 returns-then-not-is_current-clause-under_way c = λ p first. passed_over c.args.net.now p first c.in-Some.so_far c.in-Some.d c.args.search.now _ (taken c.in-Some.so_far c.in-Some.d c.args.search.now c.pop.new.self c.in-Some.ensures.some)
-    (λ at. clash c.is_current.result (c.is_current.ensures.1 at) c.if-not-is_current.true)
-  where
-    clash : (b : Bool) → b ≡ true → b ≡ false → ⊥
-    clash b h k = cc
+    (λ at. true_not_false c.is_current.result (c.is_current.ensures.1 at) c.if-not-is_current.true)
 
 pub relax_entry-requires-clause-places : goal.relax_entry-requires-clause-places
 relax_entry-requires-clause-places c = taken_places c.args.net.now c.in-Some.so_far c.in-Some.d c.args.search.now _ c.requires (taken c.in-Some.so_far c.in-Some.d c.args.search.now c.pop.new.self c.in-Some.ensures.some)

@@ -8,6 +8,7 @@ use Rattle.lanelets.proofs.PairLists.{among_none, side_more, side_less}
 use Rattle.lanelets.proofs.pairs.push_among.Goals as goal
 use Rattle.lanelets.proofs.pairs.push_among.Goals.{then-are_side_cells+in_ok-push, else-are_side_cells}
 use Rattle.spot_terms.proofs.Places.{all_at}
+use Rattle.spot_terms.proofs.Orders.{true_not_false}
 
 pub loop-d-init : goal.loop-d-init
 loop-d-init c = λ every k. among_none every (net_of c.args.cells.now) c.args.c (Includes []) c.args.pairs.now.items (λ d i. i)
@@ -24,12 +25,9 @@ loop-d-preserved c = λ every k.
     let next : Gains (SidesAmong every net c.args.c (Includes (list ++ d ∷ []))) c.args.pairs.now.items c.if-are_side_cells.pairs.items = elim c.if-are_side_cells.branch [
       | then-are_side_cells+in_ok-push w ↦ side_more every net c.args.c list d c.args.pairs.now.items c.loop-d.pairs.items c.if-are_side_cells.pairs.items ((c.are_side_cells.ensures every k).0 w.if-are_side_cells.true) (c.loop-d.invariant every k) (ap (λ v. v.items) w.pairs-is ∙ w.in_ok-push.ensures.items)
       | else-are_side_cells w ↦ subst (λ v. Gains (SidesAmong every net c.args.c (Includes (list ++ d ∷ []))) c.args.pairs.now.items v.items) (sym w.pairs-is)
-          (side_less every net c.args.c list d c.args.pairs.now.items c.loop-d.pairs.items (λ s. clash c.are_side_cells.result ((c.are_side_cells.ensures every k).1 s) w.if-are_side_cells.false) (c.loop-d.invariant every k))
+          (side_less every net c.args.c list d c.args.pairs.now.items c.loop-d.pairs.items (λ s. true_not_false c.are_side_cells.result ((c.are_side_cells.ensures every k).1 s) w.if-are_side_cells.false) (c.loop-d.invariant every k))
     ] in
     subst (λ (zs : List ℕ). Gains (SidesAmong every net c.args.c (Includes zs)) c.args.pairs.now.items c.if-are_side_cells.pairs.items) (sym more) next
-  where
-    clash : (b : Bool) → b ≡ true → b ≡ false → ⊥
-    clash b h k = cc
 
 pub returns : goal.returns
 returns c = λ every k. let all = take_all c.loop-d.d-index c.args.list.now c.loop-d-test.false in

@@ -2,7 +2,8 @@ use Rattle.std.proofs.Common.{rules, ◌≡◌, ◌∙◌, ℤ, pos, neg_ℤ, �
 use Rattle.std.specs.Int.{int_max, int_min}
 use Rattle.spot_terms.specs.Pieces.{lowest, highest}
 use Rattle.carve.specs.Ranges.{IsRange}
-use Rattle.participants.proofs.Heights.{near_at, fits_near, fits_minus, minus_is, two, pair}
+use Rattle.participants.proofs.Heights.{near_at, fits_near, fits_minus, two, pair}
+use Rattle.spot_terms.proofs.Orders.{opposite_is}
 use Rattle.participants.proofs.pieces.cut_span.Goals as goal
 
 pub returns : goal.returns
@@ -12,7 +13,7 @@ returns c =
     let f6 = fits_near (get_or c.args.o.now.n 6 (pos 0)) s6 in
     let f2 = fits_near (get_or c.args.o.now.n 2 (pos 0)) s2 in
     let south : to_z w64 (of_z w64 (pos 0 -ℤ to_z w64 (of_z w64 (get_or c.args.o.now.n 6 (pos 0))))) ≡ neg_ℤ (get_or c.args.o.now.n 6 (pos 0)) =
-    ap (λ (z : ℤ). to_z w64 (of_z w64 (pos 0 -ℤ z))) (to_z-of_z f6) ∙ (to_z-of_z (fits_minus (get_or c.args.o.now.n 6 (pos 0)) s6) ∙ minus_is (get_or c.args.o.now.n 6 (pos 0))) in
+    ap (λ (z : ℤ). to_z w64 (of_z w64 (pos 0 -ℤ z))) (to_z-of_z f6) ∙ (to_z-of_z (fits_minus (get_or c.args.o.now.n 6 (pos 0)) s6) ∙ opposite_is (get_or c.args.o.now.n 6 (pos 0))) in
     let first : to_z w64 (of_z w64 c.heights-low.result.0) ≡ c.heights-low.result.0 = search rules in
     let last : to_z w64 (of_z w64 c.heights-low.result.1) ≡ c.heights-low.result.1 = search rules in
     let low : c.max.result ≡ int_max (neg_ℤ (get_or c.args.o.now.n 6 (pos 0))) (lowest c.args.p.now) = c.max.ensures.value ∙ two int_max _ _ _ _ south (first ∙ c.heights-low.ensures.low) in

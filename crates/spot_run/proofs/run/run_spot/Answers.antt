@@ -6,10 +6,8 @@ use Rattle.spot_words.specs.Words.{StandsFor}
 use Rattle.spot_run.specs.RunOf.{run_of}
 use Rattle.spot_run.proofs.Causes.{loaded, failed, no_command_holds, not_built}
 use Rattle.spot_run.proofs.Runs.{for_command, for_reading, read_none, room}
+use Rattle.spot_terms.proofs.Orders.{true_not_false}
 use Rattle.spot_run.proofs.run.run_spot.Goals as goal
-
-unbuilt : (b : Bool) → b ≡ true → b ≡ false → ⊥
-unbuilt b is not = cc
 
 pub write_output-requires-clause-command : goal.write_output-requires-clause-command
 write_output-requires-clause-command g c = (for_command (run_of c.args.words.now.items g.S.Source c.args.source.now c.load.new.source g.K.Sink c.args.sink.now c.args.sink.now Memory) c.in-Ok-Some.field-0 c.in-Ok-Some.command c.in-Ok-Some.field-0-is c.in-Ok-Some.ensures.some c.in-Ok-Some.ensures.only c.in-Ok-Some.ensures.ranges (c.is_built.ensures.0 c.if-not-is_built.false)).range
@@ -210,67 +208,67 @@ pub returns-in-Ok-None-clause-complete : goal.returns-in-Ok-None-clause-complete
 returns-in-Ok-None-clause-complete g c = (no_command_holds (run_of c.args.words.now.items g.S.Source c.args.source.now c.args.source.now g.K.Sink c.args.sink.now c.args.sink.now BadWords) refl (read_none ((d : Command) → StandsFor c.args.words.now.items d → ⊥) c.in-Ok-None.field-0 c.in-Ok-None.field-0-is c.in-Ok-None.ensures.none)).complete
 
 pub returns-then-not-is_built-clause-headline : goal.returns-then-not-is_built-clause-headline
-returns-then-not-is_built-clause-headline g c = (not_built (run_of c.args.words.now.items g.S.Source c.args.source.now c.args.source.now g.K.Sink c.args.sink.now c.args.sink.now (Refused NotYet 0)) c.in-Ok-Some.field-0 c.in-Ok-Some.command refl c.in-Ok-Some.field-0-is c.in-Ok-Some.ensures.some c.in-Ok-Some.ensures.only (λ built. unbuilt c.is_built.result (c.is_built.ensures.1 built) c.if-not-is_built.true)).headline
+returns-then-not-is_built-clause-headline g c = (not_built (run_of c.args.words.now.items g.S.Source c.args.source.now c.args.source.now g.K.Sink c.args.sink.now c.args.sink.now (Refused NotYet 0)) c.in-Ok-Some.field-0 c.in-Ok-Some.command refl c.in-Ok-Some.field-0-is c.in-Ok-Some.ensures.some c.in-Ok-Some.ensures.only (λ built. true_not_false c.is_built.result (c.is_built.ensures.1 built) c.if-not-is_built.true)).headline
 
 pub returns-then-not-is_built-clause-output : goal.returns-then-not-is_built-clause-output
-returns-then-not-is_built-clause-output g c = (not_built (run_of c.args.words.now.items g.S.Source c.args.source.now c.args.source.now g.K.Sink c.args.sink.now c.args.sink.now (Refused NotYet 0)) c.in-Ok-Some.field-0 c.in-Ok-Some.command refl c.in-Ok-Some.field-0-is c.in-Ok-Some.ensures.some c.in-Ok-Some.ensures.only (λ built. unbuilt c.is_built.result (c.is_built.ensures.1 built) c.if-not-is_built.true)).output
+returns-then-not-is_built-clause-output g c = (not_built (run_of c.args.words.now.items g.S.Source c.args.source.now c.args.source.now g.K.Sink c.args.sink.now c.args.sink.now (Refused NotYet 0)) c.in-Ok-Some.field-0 c.in-Ok-Some.command refl c.in-Ok-Some.field-0-is c.in-Ok-Some.ensures.some c.in-Ok-Some.ensures.only (λ built. true_not_false c.is_built.result (c.is_built.ensures.1 built) c.if-not-is_built.true)).output
 
 pub returns-then-not-is_built-clause-source_read : goal.returns-then-not-is_built-clause-source_read
-returns-then-not-is_built-clause-source_read g c = (not_built (run_of c.args.words.now.items g.S.Source c.args.source.now c.args.source.now g.K.Sink c.args.sink.now c.args.sink.now (Refused NotYet 0)) c.in-Ok-Some.field-0 c.in-Ok-Some.command refl c.in-Ok-Some.field-0-is c.in-Ok-Some.ensures.some c.in-Ok-Some.ensures.only (λ built. unbuilt c.is_built.result (c.is_built.ensures.1 built) c.if-not-is_built.true)).source_read
+returns-then-not-is_built-clause-source_read g c = (not_built (run_of c.args.words.now.items g.S.Source c.args.source.now c.args.source.now g.K.Sink c.args.sink.now c.args.sink.now (Refused NotYet 0)) c.in-Ok-Some.field-0 c.in-Ok-Some.command refl c.in-Ok-Some.field-0-is c.in-Ok-Some.ensures.some c.in-Ok-Some.ensures.only (λ built. true_not_false c.is_built.result (c.is_built.ensures.1 built) c.if-not-is_built.true)).source_read
 
 pub returns-then-not-is_built-clause-known : goal.returns-then-not-is_built-clause-known
-returns-then-not-is_built-clause-known g c = (not_built (run_of c.args.words.now.items g.S.Source c.args.source.now c.args.source.now g.K.Sink c.args.sink.now c.args.sink.now (Refused NotYet 0)) c.in-Ok-Some.field-0 c.in-Ok-Some.command refl c.in-Ok-Some.field-0-is c.in-Ok-Some.ensures.some c.in-Ok-Some.ensures.only (λ built. unbuilt c.is_built.result (c.is_built.ensures.1 built) c.if-not-is_built.true)).known
+returns-then-not-is_built-clause-known g c = (not_built (run_of c.args.words.now.items g.S.Source c.args.source.now c.args.source.now g.K.Sink c.args.sink.now c.args.sink.now (Refused NotYet 0)) c.in-Ok-Some.field-0 c.in-Ok-Some.command refl c.in-Ok-Some.field-0-is c.in-Ok-Some.ensures.some c.in-Ok-Some.ensures.only (λ built. true_not_false c.is_built.result (c.is_built.ensures.1 built) c.if-not-is_built.true)).known
 
 pub returns-then-not-is_built-clause-bad_words : goal.returns-then-not-is_built-clause-bad_words
-returns-then-not-is_built-clause-bad_words g c = (not_built (run_of c.args.words.now.items g.S.Source c.args.source.now c.args.source.now g.K.Sink c.args.sink.now c.args.sink.now (Refused NotYet 0)) c.in-Ok-Some.field-0 c.in-Ok-Some.command refl c.in-Ok-Some.field-0-is c.in-Ok-Some.ensures.some c.in-Ok-Some.ensures.only (λ built. unbuilt c.is_built.result (c.is_built.ensures.1 built) c.if-not-is_built.true)).bad_words
+returns-then-not-is_built-clause-bad_words g c = (not_built (run_of c.args.words.now.items g.S.Source c.args.source.now c.args.source.now g.K.Sink c.args.sink.now c.args.sink.now (Refused NotYet 0)) c.in-Ok-Some.field-0 c.in-Ok-Some.command refl c.in-Ok-Some.field-0-is c.in-Ok-Some.ensures.some c.in-Ok-Some.ensures.only (λ built. true_not_false c.is_built.result (c.is_built.ensures.1 built) c.if-not-is_built.true)).bad_words
 
 pub returns-then-not-is_built-clause-not_yet : goal.returns-then-not-is_built-clause-not_yet
-returns-then-not-is_built-clause-not_yet g c = (not_built (run_of c.args.words.now.items g.S.Source c.args.source.now c.args.source.now g.K.Sink c.args.sink.now c.args.sink.now (Refused NotYet 0)) c.in-Ok-Some.field-0 c.in-Ok-Some.command refl c.in-Ok-Some.field-0-is c.in-Ok-Some.ensures.some c.in-Ok-Some.ensures.only (λ built. unbuilt c.is_built.result (c.is_built.ensures.1 built) c.if-not-is_built.true)).not_yet
+returns-then-not-is_built-clause-not_yet g c = (not_built (run_of c.args.words.now.items g.S.Source c.args.source.now c.args.source.now g.K.Sink c.args.sink.now c.args.sink.now (Refused NotYet 0)) c.in-Ok-Some.field-0 c.in-Ok-Some.command refl c.in-Ok-Some.field-0-is c.in-Ok-Some.ensures.some c.in-Ok-Some.ensures.only (λ built. true_not_false c.is_built.result (c.is_built.ensures.1 built) c.if-not-is_built.true)).not_yet
 
 pub returns-then-not-is_built-clause-read_fault : goal.returns-then-not-is_built-clause-read_fault
-returns-then-not-is_built-clause-read_fault g c = (not_built (run_of c.args.words.now.items g.S.Source c.args.source.now c.args.source.now g.K.Sink c.args.sink.now c.args.sink.now (Refused NotYet 0)) c.in-Ok-Some.field-0 c.in-Ok-Some.command refl c.in-Ok-Some.field-0-is c.in-Ok-Some.ensures.some c.in-Ok-Some.ensures.only (λ built. unbuilt c.is_built.result (c.is_built.ensures.1 built) c.if-not-is_built.true)).read_fault
+returns-then-not-is_built-clause-read_fault g c = (not_built (run_of c.args.words.now.items g.S.Source c.args.source.now c.args.source.now g.K.Sink c.args.sink.now c.args.sink.now (Refused NotYet 0)) c.in-Ok-Some.field-0 c.in-Ok-Some.command refl c.in-Ok-Some.field-0-is c.in-Ok-Some.ensures.some c.in-Ok-Some.ensures.only (λ built. true_not_false c.is_built.result (c.is_built.ensures.1 built) c.if-not-is_built.true)).read_fault
 
 pub returns-then-not-is_built-clause-too_long : goal.returns-then-not-is_built-clause-too_long
-returns-then-not-is_built-clause-too_long g c = (not_built (run_of c.args.words.now.items g.S.Source c.args.source.now c.args.source.now g.K.Sink c.args.sink.now c.args.sink.now (Refused NotYet 0)) c.in-Ok-Some.field-0 c.in-Ok-Some.command refl c.in-Ok-Some.field-0-is c.in-Ok-Some.ensures.some c.in-Ok-Some.ensures.only (λ built. unbuilt c.is_built.result (c.is_built.ensures.1 built) c.if-not-is_built.true)).too_long
+returns-then-not-is_built-clause-too_long g c = (not_built (run_of c.args.words.now.items g.S.Source c.args.source.now c.args.source.now g.K.Sink c.args.sink.now c.args.sink.now (Refused NotYet 0)) c.in-Ok-Some.field-0 c.in-Ok-Some.command refl c.in-Ok-Some.field-0-is c.in-Ok-Some.ensures.some c.in-Ok-Some.ensures.only (λ built. true_not_false c.is_built.result (c.is_built.ensures.1 built) c.if-not-is_built.true)).too_long
 
 pub returns-then-not-is_built-clause-not_json : goal.returns-then-not-is_built-clause-not_json
-returns-then-not-is_built-clause-not_json g c = (not_built (run_of c.args.words.now.items g.S.Source c.args.source.now c.args.source.now g.K.Sink c.args.sink.now c.args.sink.now (Refused NotYet 0)) c.in-Ok-Some.field-0 c.in-Ok-Some.command refl c.in-Ok-Some.field-0-is c.in-Ok-Some.ensures.some c.in-Ok-Some.ensures.only (λ built. unbuilt c.is_built.result (c.is_built.ensures.1 built) c.if-not-is_built.true)).not_json
+returns-then-not-is_built-clause-not_json g c = (not_built (run_of c.args.words.now.items g.S.Source c.args.source.now c.args.source.now g.K.Sink c.args.sink.now c.args.sink.now (Refused NotYet 0)) c.in-Ok-Some.field-0 c.in-Ok-Some.command refl c.in-Ok-Some.field-0-is c.in-Ok-Some.ensures.some c.in-Ok-Some.ensures.only (λ built. true_not_false c.is_built.result (c.is_built.ensures.1 built) c.if-not-is_built.true)).not_json
 
 pub returns-then-not-is_built-clause-not_tree : goal.returns-then-not-is_built-clause-not_tree
-returns-then-not-is_built-clause-not_tree g c = (not_built (run_of c.args.words.now.items g.S.Source c.args.source.now c.args.source.now g.K.Sink c.args.sink.now c.args.sink.now (Refused NotYet 0)) c.in-Ok-Some.field-0 c.in-Ok-Some.command refl c.in-Ok-Some.field-0-is c.in-Ok-Some.ensures.some c.in-Ok-Some.ensures.only (λ built. unbuilt c.is_built.result (c.is_built.ensures.1 built) c.if-not-is_built.true)).not_tree
+returns-then-not-is_built-clause-not_tree g c = (not_built (run_of c.args.words.now.items g.S.Source c.args.source.now c.args.source.now g.K.Sink c.args.sink.now c.args.sink.now (Refused NotYet 0)) c.in-Ok-Some.field-0 c.in-Ok-Some.command refl c.in-Ok-Some.field-0-is c.in-Ok-Some.ensures.some c.in-Ok-Some.ensures.only (λ built. true_not_false c.is_built.result (c.is_built.ensures.1 built) c.if-not-is_built.true)).not_tree
 
 pub returns-then-not-is_built-clause-refused : goal.returns-then-not-is_built-clause-refused
-returns-then-not-is_built-clause-refused g c = (not_built (run_of c.args.words.now.items g.S.Source c.args.source.now c.args.source.now g.K.Sink c.args.sink.now c.args.sink.now (Refused NotYet 0)) c.in-Ok-Some.field-0 c.in-Ok-Some.command refl c.in-Ok-Some.field-0-is c.in-Ok-Some.ensures.some c.in-Ok-Some.ensures.only (λ built. unbuilt c.is_built.result (c.is_built.ensures.1 built) c.if-not-is_built.true)).refused
+returns-then-not-is_built-clause-refused g c = (not_built (run_of c.args.words.now.items g.S.Source c.args.source.now c.args.source.now g.K.Sink c.args.sink.now c.args.sink.now (Refused NotYet 0)) c.in-Ok-Some.field-0 c.in-Ok-Some.command refl c.in-Ok-Some.field-0-is c.in-Ok-Some.ensures.some c.in-Ok-Some.ensures.only (λ built. true_not_false c.is_built.result (c.is_built.ensures.1 built) c.if-not-is_built.true)).refused
 
 pub returns-then-not-is_built-clause-no_problem : goal.returns-then-not-is_built-clause-no_problem
-returns-then-not-is_built-clause-no_problem g c = (not_built (run_of c.args.words.now.items g.S.Source c.args.source.now c.args.source.now g.K.Sink c.args.sink.now c.args.sink.now (Refused NotYet 0)) c.in-Ok-Some.field-0 c.in-Ok-Some.command refl c.in-Ok-Some.field-0-is c.in-Ok-Some.ensures.some c.in-Ok-Some.ensures.only (λ built. unbuilt c.is_built.result (c.is_built.ensures.1 built) c.if-not-is_built.true)).no_problem
+returns-then-not-is_built-clause-no_problem g c = (not_built (run_of c.args.words.now.items g.S.Source c.args.source.now c.args.source.now g.K.Sink c.args.sink.now c.args.sink.now (Refused NotYet 0)) c.in-Ok-Some.field-0 c.in-Ok-Some.command refl c.in-Ok-Some.field-0-is c.in-Ok-Some.ensures.some c.in-Ok-Some.ensures.only (λ built. true_not_false c.is_built.result (c.is_built.ensures.1 built) c.if-not-is_built.true)).no_problem
 
 pub returns-then-not-is_built-clause-late_problem : goal.returns-then-not-is_built-clause-late_problem
-returns-then-not-is_built-clause-late_problem g c = (not_built (run_of c.args.words.now.items g.S.Source c.args.source.now c.args.source.now g.K.Sink c.args.sink.now c.args.sink.now (Refused NotYet 0)) c.in-Ok-Some.field-0 c.in-Ok-Some.command refl c.in-Ok-Some.field-0-is c.in-Ok-Some.ensures.some c.in-Ok-Some.ensures.only (λ built. unbuilt c.is_built.result (c.is_built.ensures.1 built) c.if-not-is_built.true)).late_problem
+returns-then-not-is_built-clause-late_problem g c = (not_built (run_of c.args.words.now.items g.S.Source c.args.source.now c.args.source.now g.K.Sink c.args.sink.now c.args.sink.now (Refused NotYet 0)) c.in-Ok-Some.field-0 c.in-Ok-Some.command refl c.in-Ok-Some.field-0-is c.in-Ok-Some.ensures.some c.in-Ok-Some.ensures.only (λ built. true_not_false c.is_built.result (c.is_built.ensures.1 built) c.if-not-is_built.true)).late_problem
 
 pub returns-then-not-is_built-clause-ego_too_fast : goal.returns-then-not-is_built-clause-ego_too_fast
-returns-then-not-is_built-clause-ego_too_fast g c = (not_built (run_of c.args.words.now.items g.S.Source c.args.source.now c.args.source.now g.K.Sink c.args.sink.now c.args.sink.now (Refused NotYet 0)) c.in-Ok-Some.field-0 c.in-Ok-Some.command refl c.in-Ok-Some.field-0-is c.in-Ok-Some.ensures.some c.in-Ok-Some.ensures.only (λ built. unbuilt c.is_built.result (c.is_built.ensures.1 built) c.if-not-is_built.true)).ego_too_fast
+returns-then-not-is_built-clause-ego_too_fast g c = (not_built (run_of c.args.words.now.items g.S.Source c.args.source.now c.args.source.now g.K.Sink c.args.sink.now c.args.sink.now (Refused NotYet 0)) c.in-Ok-Some.field-0 c.in-Ok-Some.command refl c.in-Ok-Some.field-0-is c.in-Ok-Some.ensures.some c.in-Ok-Some.ensures.only (λ built. true_not_false c.is_built.result (c.is_built.ensures.1 built) c.if-not-is_built.true)).ego_too_fast
 
 pub returns-then-not-is_built-clause-too_many_cells : goal.returns-then-not-is_built-clause-too_many_cells
-returns-then-not-is_built-clause-too_many_cells g c = (not_built (run_of c.args.words.now.items g.S.Source c.args.source.now c.args.source.now g.K.Sink c.args.sink.now c.args.sink.now (Refused NotYet 0)) c.in-Ok-Some.field-0 c.in-Ok-Some.command refl c.in-Ok-Some.field-0-is c.in-Ok-Some.ensures.some c.in-Ok-Some.ensures.only (λ built. unbuilt c.is_built.result (c.is_built.ensures.1 built) c.if-not-is_built.true)).too_many_cells
+returns-then-not-is_built-clause-too_many_cells g c = (not_built (run_of c.args.words.now.items g.S.Source c.args.source.now c.args.source.now g.K.Sink c.args.sink.now c.args.sink.now (Refused NotYet 0)) c.in-Ok-Some.field-0 c.in-Ok-Some.command refl c.in-Ok-Some.field-0-is c.in-Ok-Some.ensures.some c.in-Ok-Some.ensures.only (λ built. true_not_false c.is_built.result (c.is_built.ensures.1 built) c.if-not-is_built.true)).too_many_cells
 
 pub returns-then-not-is_built-clause-lane_too_wide : goal.returns-then-not-is_built-clause-lane_too_wide
-returns-then-not-is_built-clause-lane_too_wide g c = (not_built (run_of c.args.words.now.items g.S.Source c.args.source.now c.args.source.now g.K.Sink c.args.sink.now c.args.sink.now (Refused NotYet 0)) c.in-Ok-Some.field-0 c.in-Ok-Some.command refl c.in-Ok-Some.field-0-is c.in-Ok-Some.ensures.some c.in-Ok-Some.ensures.only (λ built. unbuilt c.is_built.result (c.is_built.ensures.1 built) c.if-not-is_built.true)).lane_too_wide
+returns-then-not-is_built-clause-lane_too_wide g c = (not_built (run_of c.args.words.now.items g.S.Source c.args.source.now c.args.source.now g.K.Sink c.args.sink.now c.args.sink.now (Refused NotYet 0)) c.in-Ok-Some.field-0 c.in-Ok-Some.command refl c.in-Ok-Some.field-0-is c.in-Ok-Some.ensures.some c.in-Ok-Some.ensures.only (λ built. true_not_false c.is_built.result (c.is_built.ensures.1 built) c.if-not-is_built.true)).lane_too_wide
 
 pub returns-then-not-is_built-clause-too_many_lane_polygons : goal.returns-then-not-is_built-clause-too_many_lane_polygons
-returns-then-not-is_built-clause-too_many_lane_polygons g c = (not_built (run_of c.args.words.now.items g.S.Source c.args.source.now c.args.source.now g.K.Sink c.args.sink.now c.args.sink.now (Refused NotYet 0)) c.in-Ok-Some.field-0 c.in-Ok-Some.command refl c.in-Ok-Some.field-0-is c.in-Ok-Some.ensures.some c.in-Ok-Some.ensures.only (λ built. unbuilt c.is_built.result (c.is_built.ensures.1 built) c.if-not-is_built.true)).too_many_lane_polygons
+returns-then-not-is_built-clause-too_many_lane_polygons g c = (not_built (run_of c.args.words.now.items g.S.Source c.args.source.now c.args.source.now g.K.Sink c.args.sink.now c.args.sink.now (Refused NotYet 0)) c.in-Ok-Some.field-0 c.in-Ok-Some.command refl c.in-Ok-Some.field-0-is c.in-Ok-Some.ensures.some c.in-Ok-Some.ensures.only (λ built. true_not_false c.is_built.result (c.is_built.ensures.1 built) c.if-not-is_built.true)).too_many_lane_polygons
 
 pub returns-then-not-is_built-clause-area_too_wide : goal.returns-then-not-is_built-clause-area_too_wide
-returns-then-not-is_built-clause-area_too_wide g c = (not_built (run_of c.args.words.now.items g.S.Source c.args.source.now c.args.source.now g.K.Sink c.args.sink.now c.args.sink.now (Refused NotYet 0)) c.in-Ok-Some.field-0 c.in-Ok-Some.command refl c.in-Ok-Some.field-0-is c.in-Ok-Some.ensures.some c.in-Ok-Some.ensures.only (λ built. unbuilt c.is_built.result (c.is_built.ensures.1 built) c.if-not-is_built.true)).area_too_wide
+returns-then-not-is_built-clause-area_too_wide g c = (not_built (run_of c.args.words.now.items g.S.Source c.args.source.now c.args.source.now g.K.Sink c.args.sink.now c.args.sink.now (Refused NotYet 0)) c.in-Ok-Some.field-0 c.in-Ok-Some.command refl c.in-Ok-Some.field-0-is c.in-Ok-Some.ensures.some c.in-Ok-Some.ensures.only (λ built. true_not_false c.is_built.result (c.is_built.ensures.1 built) c.if-not-is_built.true)).area_too_wide
 
 pub returns-then-not-is_built-clause-too_many_boxes : goal.returns-then-not-is_built-clause-too_many_boxes
-returns-then-not-is_built-clause-too_many_boxes g c = (not_built (run_of c.args.words.now.items g.S.Source c.args.source.now c.args.source.now g.K.Sink c.args.sink.now c.args.sink.now (Refused NotYet 0)) c.in-Ok-Some.field-0 c.in-Ok-Some.command refl c.in-Ok-Some.field-0-is c.in-Ok-Some.ensures.some c.in-Ok-Some.ensures.only (λ built. unbuilt c.is_built.result (c.is_built.ensures.1 built) c.if-not-is_built.true)).too_many_boxes
+returns-then-not-is_built-clause-too_many_boxes g c = (not_built (run_of c.args.words.now.items g.S.Source c.args.source.now c.args.source.now g.K.Sink c.args.sink.now c.args.sink.now (Refused NotYet 0)) c.in-Ok-Some.field-0 c.in-Ok-Some.command refl c.in-Ok-Some.field-0-is c.in-Ok-Some.ensures.some c.in-Ok-Some.ensures.only (λ built. true_not_false c.is_built.result (c.is_built.ensures.1 built) c.if-not-is_built.true)).too_many_boxes
 
 pub returns-then-not-is_built-clause-write_fault : goal.returns-then-not-is_built-clause-write_fault
-returns-then-not-is_built-clause-write_fault g c = (not_built (run_of c.args.words.now.items g.S.Source c.args.source.now c.args.source.now g.K.Sink c.args.sink.now c.args.sink.now (Refused NotYet 0)) c.in-Ok-Some.field-0 c.in-Ok-Some.command refl c.in-Ok-Some.field-0-is c.in-Ok-Some.ensures.some c.in-Ok-Some.ensures.only (λ built. unbuilt c.is_built.result (c.is_built.ensures.1 built) c.if-not-is_built.true)).write_fault
+returns-then-not-is_built-clause-write_fault g c = (not_built (run_of c.args.words.now.items g.S.Source c.args.source.now c.args.source.now g.K.Sink c.args.sink.now c.args.sink.now (Refused NotYet 0)) c.in-Ok-Some.field-0 c.in-Ok-Some.command refl c.in-Ok-Some.field-0-is c.in-Ok-Some.ensures.some c.in-Ok-Some.ensures.only (λ built. true_not_false c.is_built.result (c.is_built.ensures.1 built) c.if-not-is_built.true)).write_fault
 
 pub returns-then-not-is_built-clause-complete : goal.returns-then-not-is_built-clause-complete
-returns-then-not-is_built-clause-complete g c = (not_built (run_of c.args.words.now.items g.S.Source c.args.source.now c.args.source.now g.K.Sink c.args.sink.now c.args.sink.now (Refused NotYet 0)) c.in-Ok-Some.field-0 c.in-Ok-Some.command refl c.in-Ok-Some.field-0-is c.in-Ok-Some.ensures.some c.in-Ok-Some.ensures.only (λ built. unbuilt c.is_built.result (c.is_built.ensures.1 built) c.if-not-is_built.true)).complete
+returns-then-not-is_built-clause-complete g c = (not_built (run_of c.args.words.now.items g.S.Source c.args.source.now c.args.source.now g.K.Sink c.args.sink.now c.args.sink.now (Refused NotYet 0)) c.in-Ok-Some.field-0 c.in-Ok-Some.command refl c.in-Ok-Some.field-0-is c.in-Ok-Some.ensures.some c.in-Ok-Some.ensures.only (λ built. true_not_false c.is_built.result (c.is_built.ensures.1 built) c.if-not-is_built.true)).complete
 
 pub returns-in-Ok-clause-source_kept : goal.returns-in-Ok-clause-source_kept
 returns-in-Ok-clause-source_kept g c = λ unread. absurd (unread (for_reading (run_of c.args.words.now.items g.S.Source c.args.source.now c.load.new.source g.K.Sink c.args.sink.now c.write_output.new.sink c.write_output.result) c.in-Ok-Some.command (for_command (run_of c.args.words.now.items g.S.Source c.args.source.now c.load.new.source g.K.Sink c.args.sink.now c.write_output.new.sink c.write_output.result) c.in-Ok-Some.field-0 c.in-Ok-Some.command c.in-Ok-Some.field-0-is c.in-Ok-Some.ensures.some c.in-Ok-Some.ensures.only c.in-Ok-Some.ensures.ranges (c.is_built.ensures.0 c.if-not-is_built.false))))
