@@ -5,7 +5,7 @@ use Rattle.std.specs.Str.{bytes_eq}
 use Rattle.std.specs.Cmp.Lexicographic.{bytes_decides}
 use Rattle.std.proofs.lemmas.Bool.Decides.{nat_tests}
 use Rattle.spot_terms.specs.Lists.{Includes}
-use Rattle.spot_claims.specs.Tree.{Element, Rising, is_called, all_named, element_in}
+use Rattle.spot_claims.specs.Tree.{Element, IsTree, Rising, is_called, all_named, element_in, no_element}
 use Rattle.spot_claims.specs.Paths.{at_path, statics, dynamics}
 use Rattle.spot_claims.specs.Profile.{IsAccepted, at_paths, obstacles}
 use Rattle.scenario.proofs.Accepts.{not_too_many}
@@ -13,7 +13,7 @@ use Rattle.scenario.proofs.Counts.{count_cons, count_none, count_front}
 use Rattle.scenario.proofs.Rises.{low_before, in_filter}
 use Rattle.scenario.proofs.Members.{item_in}
 use Rattle.spot_terms.proofs.ListLemmas.{includes_either, includes_front}
-use Rattle.spot_terms.proofs.Orders.{below_or_at_least}
+use Rattle.spot_terms.proofs.Orders.{below_or_at_least, next_is}
 
 -- ---- how many are below a number, and how many are it
 
@@ -61,10 +61,7 @@ between xs n (suc t) one h = elim (below_or_at_least n (Below t xs)) [
 ]
   where
     up : (xs : List ℕ) (n t : ℕ) → n < Below (suc t) xs → n < Below (t + 1) xs
-    up xs n t h = let P : ℕ → Type 0 = λ s. n < Below s xs in subst P (plus t) h
-      where
-        plus : (t : ℕ) → suc t ≡ t + 1
-        plus t = omega arith
+    up xs n t h = let P : ℕ → Type 0 = λ s. n < Below s xs in subst P (next_is t) h
 
 pub all_below : (xs : List ℕ) (m : ℕ) → All (λ x. x < m) xs → Below m xs ≡ length xs
 all_below xs m h = count_front (λ d. nat_lt d m) xs (length xs) (omega arith) (λ k d l. less (get_or xs k d) m (h k d l)) (λ k d a l. absurd (omega arith))
@@ -167,11 +164,9 @@ at_most n h = elim (least n) [ inl l ↦ l | inr l ↦ absurd (h l) ]
     least : (n : ℕ) → (n ≤ 4096) ⊎ (4096 < n)
     least n = grind arith
 
-pub few_obstacles : (tree : List Element) → IsAccepted tree → (cs : List ℕ) → cs ≡ (element_in tree 0).children → Rising 0 cs → All (λ c. c < length tree) cs → length (at_path tree dynamics) + length (at_path tree statics) ≤ 4096
-few_obstacles tree ok cs same r h =
-    let P : List ℕ → Type 0 = λ l. Rising 0 l in
-    let Q : List ℕ → Type 0 = λ l. All (λ c. c < length tree) l in
-    let few = at_most (length (Both tree)) (too_many tree ok (subst P same r) (length tree) (subst Q same h)) in
+pub few_obstacles : (tree : List Element) → IsAccepted tree → IsTree tree → length (at_path tree dynamics) + length (at_path tree statics) ≤ 4096
+few_obstacles tree ok t =
+    let few = at_most (length (Both tree)) (too_many tree ok (t.rising 0 no_element t.some) (length tree) (t.within 0 no_element t.some)) in
     let n = length-append (Statics tree) (Dynamics tree) in
     let a = ap (λ (l : List ℕ). length l) (append-nil (Statics tree)) in
     let b = ap (λ (l : List ℕ). length l) (append-nil (Dynamics tree)) in omega (arith, few, n, a, b)

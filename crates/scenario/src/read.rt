@@ -19,7 +19,7 @@ use crate::lanes::lanes_of;
 use crate::numbers::step_in;
 use crate::table::{DYNAMICS, PROBLEMS, STATICS};
 use crate::walk::walk;
-use spot_terms::{Code, FixedList, MOST_OBSTACLES, MOST_TICKS, Movers, Problems, Scenario};
+use spot_terms::{Code, FixedList, MOST_TICKS, Movers, Problems, Scenario};
 use spot_tree::Tree;
 use std::alloc::{AllocError, Global};
 use thiserror::Error;
@@ -103,15 +103,6 @@ fn problems_in(alloc: Global, tree: &Tree) -> Result<Problems, AllocError>
     Ok(Problems::from_vec(problems_of(alloc, tree, &elements)?))
 }
 
-// There are at most 4,096 obstacles.
-fn few_obstacles(tree: &Tree)
-    requires { IsAccepted tree.now }
-    ensures { length (at_path tree.now dynamics) + length (at_path tree.now statics) ≤ MOST_OBSTACLES }
-{
-    prove!(0 < tree.len());
-    let _children = tree.children(0);
-}
-
 // The scenario of an accepted tree.
 fn values_of(alloc: Global, tree: &Tree) -> Result<Scenario, AllocError>
     requires { IsAccepted tree.now }
@@ -122,8 +113,7 @@ fn values_of(alloc: Global, tree: &Tree) -> Result<Scenario, AllocError>
     ensures ids { IfOk result (λ s. HaveUniqueIds s) }
     ensures few { IfOk result (λ s. IsFew s) }
 {
-    few_obstacles(tree);
-    tree.is_tree();
+    prove!(0 < tree.len());
     Ok(Scenario {
         step: step_of(tree),
         lanelets: lanes_of(alloc, tree)?,

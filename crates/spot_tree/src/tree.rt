@@ -34,21 +34,15 @@ impl Model for Tree {
 }
 
 impl Tree {
-    /// How many elements there are, 1 to 67,108,864.
+    /// How many elements there are, 1 to 67,108,864. Children are among them, an element's children stand in document
+    /// order, the first element is no child, and each other is a child once at most.
     pub fn len(&self) -> u32
         ensures same { result ≡ length self.now }
         ensures some { 0 < result }
         ensures few { result ≤ MOST_BYTES }
+        ensures tree { IsTree self.now }
     {
         self.nodes.len() as u32
-    }
-
-    /// What holds of each tree: children are elements, an element's children stand in document order, the first element
-    /// is no child, and each other is a child once at most.
-    pub fn is_tree(&self)
-        ensures { IsTree self.now }
-    {
-        let _nodes = &self.nodes;
     }
 
     /// The name of an element, which is below `len`.

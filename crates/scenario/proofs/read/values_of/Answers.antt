@@ -6,6 +6,7 @@ use Rattle.scenario.proofs.States.{states_in_range}
 use Rattle.scenario.proofs.Totals.{few_recorded, few_held}
 use Rattle.scenario.proofs.read.values_of.Goals as goal
 use Rattle.spot_terms.proofs.ListLemmas.{pairwise_length}
+use Rattle.scenario.proofs.Few.{few_obstacles}
 
 pub returns-clause-in_range : goal.returns-clause-in_range
 returns-clause-in_range c =
@@ -14,7 +15,7 @@ returns-clause-in_range c =
     record {
       step_low = c.step_of.ensures.low;
       step_high = c.step_of.ensures.high;
-      few = omega (arith, n, m, c.few_obstacles.ensures);
+      few = omega (arith, n, m, few_obstacles c.args.tree.now c.requires c.len.ensures.tree);
       movers = c.in_ok-movers_in.ensures.within;
       fixed = c.in_ok-fixed_in.ensures.within;
       problems = c.in_ok-problems_in.ensures.within;
@@ -24,10 +25,10 @@ pub returns-clause-recorded : goal.returns-clause-recorded
 returns-clause-recorded c = states_in_range c.args.tree.now c.requires c.in_ok-movers_in.field-0 c.in_ok-movers_in.ensures.are
 
 pub returns-clause-ids : goal.returns-clause-ids
-returns-clause-ids c = unique_ids c.args.tree.now c.requires c.is_tree.ensures _ c.in_ok-lanes_of.ensures.are c.in_ok-movers_in.ensures.are c.in_ok-fixed_in.ensures.are c.in_ok-problems_in.ensures.are
+returns-clause-ids c = unique_ids c.args.tree.now c.requires c.len.ensures.tree _ c.in_ok-lanes_of.ensures.are c.in_ok-movers_in.ensures.are c.in_ok-fixed_in.ensures.are c.in_ok-problems_in.ensures.are
 
 pub returns-clause-few : goal.returns-clause-few
 returns-clause-few c = record {
-  recorded = few_recorded c.args.tree.now c.is_tree.ensures c.in_ok-movers_in.field-0 c.in_ok-problems_in.field-0 c.in_ok-movers_in.ensures.are c.in_ok-problems_in.ensures.are;
-  lanes = few_held c.args.tree.now c.is_tree.ensures _ c.in_ok-lanes_of.ensures.are;
+  recorded = few_recorded c.args.tree.now c.len.ensures.tree c.in_ok-movers_in.field-0 c.in_ok-problems_in.field-0 c.in_ok-movers_in.ensures.are c.in_ok-problems_in.ensures.are;
+  lanes = few_held c.args.tree.now c.len.ensures.tree _ c.in_ok-lanes_of.ensures.are;
 }
