@@ -1,40 +1,69 @@
-ghost use Rattle.std.specs.Prelude.{◌≡◌, ◌≤◌, length, IfOk};
+mod cases;
+
+ghost use Rattle.std.specs.Prelude.{◌≡◌, ◌≤◌, ◌↔◌, length, IfOk, IsTrue};
 ghost use Rattle.std.specs.List.{AllByRecursion};
 ghost use Rattle.spot_terms.specs.Ranges.{IsLaneInRange, IsPairInRange, lane_size};
 ghost use Rattle.spot_terms.specs.Whole.{SizeAtMost};
 ghost use Rattle.lanelets.specs.Buildable.{AreBuildable};
 
 use super::*;
+use cases::{CASES, Case, FAULTS, LaneRow, Places};
 use indexmap::IndexMap;
 use spot_terms::{IdList, PtList, RawLane};
 use std::alloc::{AllocError, Global};
+use std::process::Abort;
 use std::test::Fail;
 
-// A lanelet with these bounds, in µm, and the ids of its successors and neighbours.
-fn lane(
-    alloc: Global,
-    left: Vec<(i64, i64)>,
-    right: Vec<(i64, i64)>,
-    successors: Vec<u32>,
-    sides: Vec<u32>,
-) -> RawLane
-    requires even { length left.items ≡ length right.items }
-    requires some { 2 ≤ length left.items }
-    requires few { length left.items ≤ 10 }
-    requires few_successors { length successors.items ≤ 10 }
-    requires few_sides { length sides.items ≤ 10 }
-    requires left_in { AllByRecursion IsPairInRange left.items }
-    requires right_in { AllByRecursion IsPairInRange right.items }
-    ensures range { IsLaneInRange result }
-    ensures size { lane_size result ≤ 100 }
+// Whether a coordinate can be one of a lanelet.
+fn is_near(coordinate: i64) -> bool
+    ensures { IsTrue result ↔ SizeAtMost 10_000_000_000_000 coordinate }
 {
-    RawLane {
+    coordinate.unsigned_abs() <= 10_000_000_000_000
+}
+
+// A point of a bound.
+fn point_of(rt: &impl Abort, point: (i64, i64)) -> (i64, i64)
+    ensures { IsPairInRange result }
+{
+    assert!(rt; is_near(point.0) && is_near(point.1));
+    point
+}
+
+// The points of a bound.
+fn bound_of(
+    rt: &impl Abort,
+    alloc: Global,
+    bound: &[(i64, i64)],
+) -> Result<Vec<(i64, i64)>, AllocError>
+    ensures same { IfOk result (λ points. length points.items ≡ length bound.now) }
+    ensures near { IfOk result (λ points. AllByRecursion IsPairInRange points.items) }
+{
+    let mut points = Vec::new(alloc);
+    for point in bound {
+        points.push(point_of(rt, *point))?;
+    }
+    Ok(points)
+}
+
+// The lanelet of a row.
+fn lane_of(rt: &impl Abort, alloc: Global, row: &LaneRow) -> Result<RawLane, AllocError>
+    ensures range { IfOk result (λ lane. IsLaneInRange lane) }
+    ensures size { IfOk result (λ lane. lane_size lane ≤ 100) }
+{
+    assert!(rt; row.left.len() == row.right.len());
+    assert!(rt; 2 <= row.left.len() && row.left.len() <= 10);
+    assert!(rt; row.successors.len() <= 10 && row.sides.len() <= 10);
+    let left = bound_of(rt, alloc, row.left)?;
+    let right = bound_of(rt, alloc, row.right)?;
+    let successors = row.successors.to_vec(alloc)?;
+    let sides = row.sides.to_vec(alloc)?;
+    Ok(RawLane {
         left: PtList::from_vec(left),
         right: PtList::from_vec(right),
         successors: IdList::from_vec(successors),
         predecessors: IdList::from_vec(Vec::new(alloc)),
         sides: IdList::from_vec(sides),
-    }
+    })
 }
 
 // One lanelet.
@@ -62,24 +91,23 @@ fn two(alloc: Global, first: RawLane, second: RawLane) -> Result<IndexMap<u32, R
     Ok(lanes)
 }
 
-// A lanelet from x = 0 to x = 2 m between these y, in µm.
-fn strip(
+// The lanelets of rows: one with the id 5, or the lanelets 1 and 2.
+fn lanes_of(
+    rt: &impl Abort,
     alloc: Global,
-    high: i64,
-    low: i64,
-    successors: Vec<u32>,
-    sides: Vec<u32>,
-) -> Result<RawLane, AllocError>
-    requires high { SizeAtMost 10_000_000_000_000 high }
-    requires low { SizeAtMost 10_000_000_000_000 low }
-    requires few_successors { length successors.items ≤ 10 }
-    requires few_sides { length sides.items ≤ 10 }
-    ensures range { IfOk result (λ lane. IsLaneInRange lane) }
-    ensures size { IfOk result (λ lane. lane_size lane ≤ 100) }
+    first: &LaneRow,
+    second: &Option<LaneRow>,
+) -> Result<IndexMap<u32, RawLane>, AllocError>
+    ensures { IfOk result (λ lanes. AreBuildable lanes.entries) }
 {
-    let left = vec![in alloc; (0, high), (2_000_000, high)]?;
-    let right = vec![in alloc; (0, low), (2_000_000, low)]?;
-    Ok(lane(alloc, left, right, successors, sides))
+    match second {
+        None => one(alloc, 5, lane_of(rt, alloc, first)?),
+        Some(other) => two(
+            alloc,
+            lane_of(rt, alloc, first)?,
+            lane_of(rt, alloc, other)?,
+        ),
+    }
 }
 
 // The cells ahead of one, or none where there is no such cell.
@@ -97,269 +125,67 @@ fn beside(net: &Network, c: u32, d: u32) -> bool {
     c < net.len() && d < net.len() && net.is_side(c, d)
 }
 
-// The lanelet and the corners of a cell, or none where there is no such cell.
-fn cell_of(net: &Network, c: u32) -> (u32, &[Pt]) {
-    if c < net.len() {
-        let cell = net.cell(c);
-        (cell.lane, cell.poly.corners())
-    } else {
-        (0, &[])
+// Whether a cell is of this lanelet and has these corners.
+fn is_cell(net: &Network, c: u32, lane: u32, corners: Places) -> bool {
+    if c >= net.len() {
+        return false;
+    }
+    let cell = net.cell(c);
+    let found = cell.poly.corners();
+    cell.lane == lane
+        && found.len() == corners.len()
+        && found
+            .iter()
+            .zip(corners)
+            .all(|(corner, (x, y))| corner.x == *x && corner.y == *y)
+}
+
+// Asks what a case says of the steps from cell to cell.
+fn has_steps(rt: &impl Abort, net: &Network, case: &Case) {
+    for (c, cells) in case.ahead {
+        assert_eq!(rt; ahead(net, *c), *cells, "{}: ahead of {c}", case.name);
+    }
+    for (c, d, goes) in case.steps {
+        assert_eq!(rt; goes_ahead(net, *c, *d), *goes, "{}: {c} to {d}", case.name);
+    }
+    for (c, d, lies) in case.sides {
+        assert_eq!(rt; beside(net, *c, *d), *lies, "{}: {c} beside {d}", case.name);
     }
 }
 
-/// A bend is cut into parts of at most 2 m: five pieces, of which one has two parts.
-#[test]
-fn a_bend_has_six_cells(rt: HostRuntime) -> Result<(), Fail> {
-    let alloc = rt.alloc();
-    let left = vec![in alloc;
-        (0, 4_000_000),
-        (2_000_000, 4_000_000),
-        (2_000_000, 4_000_000),
-        (2_000_000, 6_000_000),
-        (2_000_000, 8_000_000),
-    ]?;
-    let right = vec![in alloc;
-        (0, 0),
-        (2_000_000, 0),
-        (6_000_000, 4_000_000),
-        (6_000_000, 6_000_000),
-        (6_000_000, 8_000_000),
-    ]?;
-    let bend = lane(alloc, left, right, Vec::new(alloc), Vec::new(alloc));
-    let net = build(alloc, &one(alloc, 1, bend)?)?;
-    assert_eq!(rt; net.len(), 6);
-    assert_eq!(rt; ahead(&net, 0), [1].as_slice());
-    assert_eq!(rt; ahead(&net, 4), [5].as_slice());
-    assert_eq!(rt; ahead(&net, 5).len(), 0);
+// Asks what a case says of the cells and of the points in them.
+fn has_cells(rt: &impl Abort, alloc: Global, net: &Network, case: &Case) -> Result<(), Fail> {
+    assert_eq!(rt; net.len(), case.count, "{}", case.name);
+    for (c, lane, corners) in case.cells {
+        assert!(rt;
+            is_cell(net, *c, *lane, *corners),
+            "{}: cell {c}",
+            case.name
+        );
+    }
+    for ((x, y), cells) in case.points {
+        let holding = net.cells_at(alloc, Pt { x: *x, y: *y })?;
+        assert_eq!(rt; holding.list(), *cells, "{}: cells at {x}, {y}", case.name);
+    }
     Ok(())
 }
 
-/// Two lanelets of which one lists the other as a neighbour have side cells, and a point between them is of both.
 #[test]
-fn neighbours_have_side_cells(rt: HostRuntime) -> Result<(), Fail> {
-    let alloc = rt.alloc();
-    let low = strip(alloc, 4_000_000, 0, Vec::new(alloc), vec![in alloc; 2]?)?;
-    let high = strip(
-        alloc,
-        8_000_000,
-        4_000_000,
-        Vec::new(alloc),
-        Vec::new(alloc),
-    )?;
-    let net = build(alloc, &two(alloc, low, high)?)?;
-    assert_eq!(rt; net.len(), 2);
-    assert!(rt; beside(&net, 0, 1));
-    assert!(rt; beside(&net, 1, 0));
-    assert!(rt; !beside(&net, 0, 0));
-    assert!(rt; !goes_ahead(&net, 0, 1));
-    let between = net.cells_at(
-        alloc,
-        Pt {
-            x: 1_000_000,
-            y: 4_000_000,
-        },
-    )?;
-    assert_eq!(rt; between.list(), [0, 1].as_slice());
-    let outside = net.cells_at(
-        alloc,
-        Pt {
-            x: 1_000_000,
-            y: 9_000_000,
-        },
-    )?;
-    assert_eq!(rt; outside.list().len(), 0);
-    let far = net.cells_at(alloc, Pt { x: i64::MIN, y: 0 })?;
-    assert_eq!(rt; far.list().len(), 0);
+fn networks(rt: HostRuntime) -> Result<(), Fail> {
+    for case in CASES {
+        let lanes = lanes_of(&rt, rt.alloc(), &case.first, &case.second)?;
+        let net = build(rt.alloc(), &lanes)?;
+        has_cells(&rt, rt.alloc(), &net, case)?;
+        has_steps(&rt, &net, case);
+    }
     Ok(())
 }
 
-/// Between a lanelet and one that follows it after a gap there is a bridge.
 #[test]
-fn a_gap_has_a_bridge(rt: HostRuntime) -> Result<(), Fail> {
-    let alloc = rt.alloc();
-    let first = strip(alloc, 4_000_000, 0, vec![in alloc; 2]?, Vec::new(alloc))?;
-    let left = vec![in alloc; (2_030_000, 4_000_000), (4_030_000, 4_000_000)]?;
-    let right = vec![in alloc; (2_030_000, 0), (4_030_000, 0)]?;
-    let second = lane(alloc, left, right, Vec::new(alloc), Vec::new(alloc));
-    let net = build(alloc, &two(alloc, first, second)?)?;
-    assert_eq!(rt; net.len(), 3);
-    assert_eq!(rt; ahead(&net, 0), [2].as_slice());
-    assert_eq!(rt; ahead(&net, 1).len(), 0);
-    assert_eq!(rt; ahead(&net, 2), [1].as_slice());
-    assert!(rt; goes_ahead(&net, 2, 1));
-    assert!(rt; !goes_ahead(&net, 1, 2));
-    let corners = [
-        Pt { x: 2_000_000, y: 0 },
-        Pt { x: 2_030_000, y: 0 },
-        Pt {
-            x: 2_030_000,
-            y: 4_000_000,
-        },
-        Pt {
-            x: 2_000_000,
-            y: 4_000_000,
-        },
-    ];
-    let (id, poly) = cell_of(&net, 2);
-    assert_eq!(rt; id, 1);
-    assert_eq!(rt; poly, corners.as_slice());
-    Ok(())
-}
-
-/// A lanelet that begins where the one before ends is joined to it with no bridge, but not where its sides are changed.
-#[test]
-fn joined_lanelets_have_no_bridge(rt: HostRuntime) -> Result<(), Fail> {
-    let alloc = rt.alloc();
-    let first = strip(alloc, 4_000_000, 0, vec![in alloc; 2]?, Vec::new(alloc))?;
-    let left = vec![in alloc; (2_000_000, 4_000_000), (4_000_000, 4_000_000)]?;
-    let right = vec![in alloc; (2_000_000, 0), (4_000_000, 0)]?;
-    let second = lane(alloc, left, right, Vec::new(alloc), Vec::new(alloc));
-    let net = build(alloc, &two(alloc, first, second)?)?;
-    assert_eq!(rt; net.len(), 2);
-    assert_eq!(rt; ahead(&net, 0), [1].as_slice());
-    let other = strip(alloc, 4_000_000, 0, vec![in alloc; 2]?, Vec::new(alloc))?;
-    let changed_left = vec![in alloc; (2_000_000, 0), (4_000_000, 0)]?;
-    let changed_right = vec![in alloc; (2_000_000, 4_000_000), (4_000_000, 4_000_000)]?;
-    let changed = lane(
-        alloc,
-        changed_left,
-        changed_right,
-        Vec::new(alloc),
-        Vec::new(alloc),
-    );
-    let bridged = build(alloc, &two(alloc, other, changed)?)?;
-    assert_eq!(rt; bridged.len(), 3);
-    assert_eq!(rt; ahead(&bridged, 0), [2].as_slice());
-    Ok(())
-}
-
-/// 300 km are 150,000 cells, which are counted and not made.
-#[test]
-fn too_many_cells(rt: HostRuntime) -> Result<(), Fail> {
-    let alloc = rt.alloc();
-    let left = vec![in alloc; (0, 4_000_000), (300_000_000_000, 4_000_000)]?;
-    let right = vec![in alloc; (0, 0), (300_000_000_000, 0)]?;
-    let long = lane(alloc, left, right, Vec::new(alloc), Vec::new(alloc));
-    let fault = build(alloc, &one(alloc, 1, long)?).err();
-    assert_eq!(rt; fault, Some(NetFault::TooManyCells(150_000)));
-    Ok(())
-}
-
-/// 200 km and 1 µm are one cell more than are allowed.
-#[test]
-fn one_cell_too_many(rt: HostRuntime) -> Result<(), Fail> {
-    let alloc = rt.alloc();
-    let left = vec![in alloc; (0, 4_000_000), (200_000_000_001, 4_000_000)]?;
-    let right = vec![in alloc; (0, 0), (200_000_000_000, 0)]?;
-    let long = lane(alloc, left, right, Vec::new(alloc), Vec::new(alloc));
-    let fault = build(alloc, &one(alloc, 1, long)?).err();
-    assert_eq!(rt; fault, Some(NetFault::TooManyCells(100_001)));
-    Ok(())
-}
-
-/// A lanelet may be 100 m wide, and no more.
-#[test]
-fn too_wide(rt: HostRuntime) -> Result<(), Fail> {
-    let alloc = rt.alloc();
-    let widest = strip(alloc, 100_000_000, 0, Vec::new(alloc), Vec::new(alloc))?;
-    let net = build(alloc, &one(alloc, 5, widest)?)?;
-    assert_eq!(rt; net.len(), 1);
-    let wider = strip(alloc, 100_000_001, 0, Vec::new(alloc), Vec::new(alloc))?;
-    let fault = build(alloc, &one(alloc, 5, wider)?).err();
-    assert_eq!(rt; fault, Some(NetFault::LaneTooWide(5)));
-    Ok(())
-}
-
-/// The second of two lanelets is too wide, along the x axis.
-#[test]
-fn second_too_wide_in_x(rt: HostRuntime) -> Result<(), Fail> {
-    let alloc = rt.alloc();
-    let left = vec![in alloc; (0, 0), (0, 2_000_000)]?;
-    let right = vec![in alloc; (100_000_001, 0), (100_000_000, 2_000_000)]?;
-    let wide = lane(alloc, left, right, Vec::new(alloc), Vec::new(alloc));
-    let narrow = strip(alloc, 4_000_000, 0, Vec::new(alloc), Vec::new(alloc))?;
-    let fault = build(alloc, &two(alloc, narrow, wide)?).err();
-    assert_eq!(rt; fault, Some(NetFault::LaneTooWide(2)));
-    Ok(())
-}
-
-/// A lanelet of no width has a segment as its cell.
-#[test]
-fn a_lanelet_of_no_width(rt: HostRuntime) -> Result<(), Fail> {
-    let alloc = rt.alloc();
-    let flat = strip(alloc, 0, 0, Vec::new(alloc), Vec::new(alloc))?;
-    let net = build(alloc, &one(alloc, 1, flat)?)?;
-    assert_eq!(rt; net.len(), 1);
-    assert_eq!(rt; cell_of(&net, 0).1.len(), 2);
-    assert_eq!(rt;
-        net.cells_at(alloc, Pt { x: 1_000_000, y: 0 })?.list(),
-        [0].as_slice()
-    );
-    assert_eq!(rt;
-        net.cells_at(alloc, Pt { x: 1_000_000, y: 1 })?.list().len(),
-        0
-    );
-    Ok(())
-}
-
-/// A lanelet whose points are all the same has a point as its cell.
-#[test]
-fn a_lanelet_of_one_point(rt: HostRuntime) -> Result<(), Fail> {
-    let alloc = rt.alloc();
-    let left = vec![in alloc; (5, 5), (5, 5)]?;
-    let right = vec![in alloc; (5, 5), (5, 5)]?;
-    let point = lane(alloc, left, right, Vec::new(alloc), Vec::new(alloc));
-    let net = build(alloc, &one(alloc, 1, point)?)?;
-    assert_eq!(rt; net.len(), 1);
-    assert_eq!(rt; cell_of(&net, 0), (1, [Pt { x: 5, y: 5 }].as_slice()));
-    Ok(())
-}
-
-/// Where the bounds cross, a cell is the hull of its corners, and cuts are rounded down.
-#[test]
-fn crossing_bounds(rt: HostRuntime) -> Result<(), Fail> {
-    let alloc = rt.alloc();
-    let left = vec![in alloc; (0, 4_000_000), (2_000_000, 0)]?;
-    let right = vec![in alloc; (0, 0), (2_000_000, 4_000_000)]?;
-    let crossed = lane(alloc, left, right, Vec::new(alloc), Vec::new(alloc));
-    let net = build(alloc, &one(alloc, 1, crossed)?)?;
-    assert_eq!(rt; net.len(), 3);
-    let corners = [
-        Pt {
-            x: 666_666,
-            y: 1_333_333,
-        },
-        Pt {
-            x: 1_333_333,
-            y: 1_333_333,
-        },
-        Pt {
-            x: 1_333_333,
-            y: 2_666_666,
-        },
-        Pt {
-            x: 666_666,
-            y: 2_666_666,
-        },
-    ];
-    assert_eq!(rt; cell_of(&net, 1), (1, corners.as_slice()));
-    Ok(())
-}
-
-/// A lanelet that follows itself has a bridge from its end to its start, or its last cell goes ahead to its first.
-#[test]
-fn a_lanelet_that_follows_itself(rt: HostRuntime) -> Result<(), Fail> {
-    let alloc = rt.alloc();
-    let round = strip(alloc, 4_000_000, 0, vec![in alloc; 1]?, Vec::new(alloc))?;
-    let net = build(alloc, &one(alloc, 1, round)?)?;
-    assert_eq!(rt; net.len(), 2);
-    assert_eq!(rt; ahead(&net, 0), [1].as_slice());
-    assert_eq!(rt; ahead(&net, 1), [0].as_slice());
-    let left = vec![in alloc; (0, 4_000_000), (0, 4_000_000)]?;
-    let right = vec![in alloc; (0, 0), (0, 0)]?;
-    let still = lane(alloc, left, right, vec![in alloc; 1]?, Vec::new(alloc));
-    let ring = build(alloc, &one(alloc, 1, still)?)?;
-    assert_eq!(rt; ring.len(), 1);
-    assert_eq!(rt; ahead(&ring, 0), [0].as_slice());
+fn faults(rt: HostRuntime) -> Result<(), Fail> {
+    for (name, first, second, fault) in FAULTS {
+        let lanes = lanes_of(&rt, rt.alloc(), first, second)?;
+        assert_eq!(rt; build(rt.alloc(), &lanes).err(), Some(*fault), "{name}");
+    }
     Ok(())
 }
