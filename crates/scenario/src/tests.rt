@@ -2,6 +2,7 @@ mod refusals;
 
 use super::*;
 use spot_tree::read_tree;
+use std::process::Abort;
 use std::test::Fail;
 
 // A scenario with a lanelet, an obstacle of each kind, and a problem.
@@ -23,52 +24,69 @@ const ACCEPTED: &str = r#"["commonRoad",{"commonRoadVersion":"2020a","timeStepSi
 ["initialState",["position",["point",["x","0"],["y","1.75"]]],
 ["orientation",["exact","-1"]],["velocity",["exact","30"]],["time",["exact","2"]]]]]"#;
 
-#[test]
-fn an_accepted_tree_is_read(rt: HostRuntime) -> Result<(), Fail> {
-    assert!(rt; ACCEPTED.len() <= 10_000);
-    let tree = read_tree(rt.alloc(), ACCEPTED.as_bytes())?;
-    let scenario = read_scenario(rt.alloc(), &tree)?;
-    assert_eq!(rt; scenario.step, 100);
-    let lane = scenario.lanelets.get(&1).ok_or("no lanelet")?;
-    assert_eq!(rt;
-        lane.left.list(),
-        [(0, 3_500_000), (10_000_000, 3_500_000)].as_slice()
-    );
-    assert_eq!(rt; lane.right.list(), [(0, 0), (10_000_000, 0)].as_slice());
+// What is read of it: the recorded states, the static obstacle, the problem, and the bounds of the lanelet.
+const RECORDED: &[(u32, i64, i64)] = &[(0, 1_500_000, -2_000_000), (1, 3_000_000, -2_000_000)];
+
+const FIXED: &[Fixed] = &[Fixed {
+    id: 8,
+    place: 50,
+    enclosing: 3_162_278,
+    inscribed: 0,
+    x: 50_000_000,
+    y: 0,
+}];
+
+const PROBLEMS: &[Problem] = &[Problem {
+    id: 9,
+    place: 64,
+    time: 2,
+    x: 0,
+    y: 1_750_000,
+    speed: 30_000,
+    angle: -1_000_000,
+}];
+
+const LEFT: &[(i64, i64)] = &[(0, 3_500_000), (10_000_000, 3_500_000)];
+
+const RIGHT: &[(i64, i64)] = &[(0, 0), (10_000_000, 0)];
+
+// Asks that a lanelet is that of the scenario.
+fn is_lanelet(rt: &impl Abort, lane: &RawLane) {
+    assert_eq!(rt; lane.left.list(), LEFT);
+    assert_eq!(rt; lane.right.list(), RIGHT);
     assert_eq!(rt; lane.successors.list(), [2].as_slice());
-    assert_eq!(rt; lane.predecessors.list(), [].as_slice());
+    assert!(rt; lane.predecessors.list().is_empty());
     assert_eq!(rt; lane.sides.list(), [3].as_slice());
-    let [mover] = scenario.movers.list() else {
-        return Err("not one dynamic obstacle".into());
-    };
+}
+
+// Asks that a dynamic obstacle is that of the scenario.
+fn is_bicycle(rt: &impl Abort, mover: &Mover) {
     assert_eq!(rt; (mover.id, mover.place, mover.time), (7, 20, 0));
     assert_eq!(rt; mover.kind, Kind::Bicycle);
     assert_eq!(rt; (mover.enclosing, mover.inscribed), (7_423_325, 500_000));
     assert_eq!(rt; (mover.x, mover.y), (1_500_000, -2_000_000));
     assert_eq!(rt; (mover.speed, mover.angle), (13_900, 250_000));
-    assert_eq!(rt;
-        mover.recorded.list(),
-        [(0, 1_500_000, -2_000_000), (1, 3_000_000, -2_000_000)].as_slice()
-    );
-    let fixed = Fixed {
-        id: 8,
-        place: 50,
-        enclosing: 3_162_278,
-        inscribed: 0,
-        x: 50_000_000,
-        y: 0,
-    };
-    assert_eq!(rt; scenario.fixed.list(), [fixed].as_slice());
-    let problem = Problem {
-        id: 9,
-        place: 64,
-        time: 2,
-        x: 0,
-        y: 1_750_000,
-        speed: 30_000,
-        angle: -1_000_000,
-    };
-    assert_eq!(rt; scenario.problems.list(), [problem].as_slice());
+    assert_eq!(rt; mover.recorded.list(), RECORDED);
+}
+
+// Asks that a scenario is the one of the text.
+fn is_accepted(rt: &impl Abort, scenario: &Scenario) {
+    assert_eq!(rt; scenario.step, 100);
+    assert_eq!(rt; scenario.movers.list().len(), 1);
+    for mover in scenario.movers.list() {
+        is_bicycle(rt, mover);
+    }
+    assert_eq!(rt; scenario.fixed.list(), FIXED);
+    assert_eq!(rt; scenario.problems.list(), PROBLEMS);
+}
+
+#[test]
+fn an_accepted_tree_is_read(rt: HostRuntime) -> Result<(), Fail> {
+    assert!(rt; ACCEPTED.len() <= 10_000);
+    let tree = read_tree(rt.alloc(), ACCEPTED.as_bytes())?;
+    let scenario = read_scenario(rt.alloc(), &tree)?;
+    is_accepted(&rt, &scenario);
+    is_lanelet(&rt, scenario.lanelets.get(&1).ok_or("no lanelet")?);
     Ok(())
 }
 
