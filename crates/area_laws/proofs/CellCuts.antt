@@ -1,7 +1,6 @@
 -- The sets of one cell: its polygons cut to its free runs.
-use Rattle.std.proofs.Common.{◌≡◌, ◌∙◌, inl, inr, refl, sym, ap, subst, arith, ℕ, List, [], ◌∷◌, Option, Some, None}
+use Rattle.std.proofs.Common.{◌≡◌, ◌∙◌, inl, inr, refl, sym, ap, subst, ℕ, List, [], ◌∷◌, Option, Some, None}
 use Rattle.std.specs.Prelude.{IsSomeAnd}
-use Rattle.std.proofs.lemmas.Int.{ints}
 use Rattle.std.proofs.lemmas.Option.{same_Some}
 use lib.IntN.{ℤ, pos}
 use lib.Signed.{◌≤ℤ◌, ◌<ℤ◌}
@@ -10,18 +9,15 @@ use Rattle.spot_terms.specs.CellNumbers.{Numbers, Collects}
 use Rattle.spot_terms.specs.ClippedTo.{places, IsClippedTo}
 use Rattle.spot_terms.specs.Courses.{Course}
 use Rattle.spot_terms.specs.Frames.{at}
-use Rattle.spot_terms.specs.Grid.{slot, slot_low, slot_high, IsRemoved, IsFreeRun, IsFreeRunOf, AreFreeRuns, AreInTurn, CoverTheRest}
+use Rattle.spot_terms.specs.Grid.{slot, IsRemoved, IsFreeRun, IsFreeRunOf, AreFreeRuns, AreInTurn, CoverTheRest}
 use Rattle.spot_terms.specs.Hull.{InHull}
 use Rattle.spot_terms.specs.Lists.{Includes, Ascends}
 use Rattle.spot_terms.specs.Motions.{State}
 use Rattle.spot_terms.specs.StepLists.{IsMerged, IsCut, ComesBefore}
-use Rattle.spot_terms.specs.Whole.{Within}
 use Rattle.spot_terms.specs.declared.plain.Pt.{Pt}
 use Rattle.spot_terms.proofs.ListLemmas.{all_of, all_included}
 use Rattle.spot_terms.proofs.OneClip.{clips_one, clips_not_both}
 use Rattle.spot_terms.proofs.Orders.{antisymmetric, at_most_below, reflexive}
-use Rattle.spot_terms.proofs.Quotients.{product_le_at, next_product_gt_at}
-use Rattle.spot_terms.proofs.Ring.{spread_left}
 use Rattle.base_sets.specs.declared.grid.Grid.{Grid}
 use Rattle.base_sets.specs.declared.grid.OuterBox.{OuterBox}
 use Rattle.carve.specs.Cuts.{with_x, AreCuts, KeepsStates}

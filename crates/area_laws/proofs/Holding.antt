@@ -1,7 +1,7 @@
 -- By induction over the steps: a motion is held, or was at a piece.
-use Rattle.std.proofs.Common.{◌≡◌, ℕ, ◌+◌, ◌*◌, ◌≤◌, arith, rules, refl, sym, subst, List, [], ◌∷◌, inl, inr, Some, ℤ, pos, ◌≤ℤ◌, ◌<ℤ◌, true, false}
-use Rattle.std.specs.Prelude.{slice_get, int_lt}
-use Rattle.std.proofs.lemmas.Int.{ints, by_lt_z}
+use Rattle.std.proofs.Common.{◌≡◌, ℕ, ◌+◌, ◌*◌, ◌≤◌, arith, refl, sym, subst, List, [], ◌∷◌, inl, inr, Some, ℤ, pos, ◌<ℤ◌}
+use Rattle.std.specs.Prelude.{slice_get}
+use Rattle.std.proofs.lemmas.Int.{by_lt_z}
 use Rattle.spot_terms.specs.Avoidance.{IsStruckBy, HoldsOrStrikes}
 use Rattle.spot_terms.specs.BaseSets.{SetValue}
 use Rattle.spot_terms.specs.Courses.{Course, IsMotionOf}

@@ -1,5 +1,5 @@
 -- The list of a step, cell by cell: by column, then by row.
-use Rattle.std.proofs.Common.{◌≡◌, ◌∙◌, ◌⊎◌, inl, inr, refl, sym, subst, arith, ℕ, List, [], ◌∷◌, ◌++◌, Some, None, append-nil}
+use Rattle.std.proofs.Common.{◌≡◌, ◌∙◌, ◌⊎◌, inl, inr, refl, sym, subst, arith, ℕ, List, [], ◌++◌, Some, None, append-nil}
 use Rattle.std.proofs.lemmas.Int.{ints, by_lt_z}
 use Rattle.std.proofs.lemmas.List.{map-append}
 use lib.IntN.{ℤ, pos, ◌+ℤ◌}
@@ -7,11 +7,11 @@ use lib.Signed.{◌≤ℤ◌, ◌<ℤ◌}
 use Rattle.spot_terms.specs.BaseSets.{SetValue, HoldsState}
 use Rattle.spot_terms.specs.Courses.{Course, box_at}
 use Rattle.spot_terms.specs.Grid.{slot, IsRemoved, AreFreeRuns, CoverTheRest}
-use Rattle.spot_terms.specs.Lists.{Includes, Ascends}
+use Rattle.spot_terms.specs.Lists.{Includes}
 use Rattle.spot_terms.specs.Motions.{State}
 use Rattle.spot_terms.specs.StepLists.{IsCut, ComesBefore, IsNextList}
 use Rattle.spot_terms.specs.declared.plain.Pt.{Pt}
-use Rattle.spot_terms.proofs.ListLemmas.{all_of, all_included, includes_front, includes_back, includes_either}
+use Rattle.spot_terms.proofs.ListLemmas.{includes_front, includes_back, includes_either}
 use Rattle.carve.specs.Cuts.{IsCutBy}
 use Rattle.merge_sets.specs.Tables.{IsMergedIn, Table}
 use Rattle.area_laws.specs.CellSets.{Cut, sets_of, IsCellBefore, IsThisCell, AreSetsOf, AreSetsBefore, AreSetsAt}

@@ -1,11 +1,11 @@
 -- The free runs of one column among those of all columns of a row: a stretch of the list.
-use Rattle.std.proofs.Common.{◌≡◌, ◌⊎◌, inl, inr, subst, arith, List, [], ◌∷◌, ◌++◌}
+use Rattle.std.proofs.Common.{◌≡◌, ◌⊎◌, inl, inr, subst, arith, List, ◌++◌}
 use Rattle.std.proofs.lemmas.Int.{ints}
 use Rattle.std.specs.List.{AllByRecursion}
 use lib.IntN.{ℤ, pos, ◌+ℤ◌}
 use lib.Signed.{◌≤ℤ◌, ◌<ℤ◌}
 use Rattle.spot_terms.specs.Grid.{slot_low, slot_high, IsFreeRun, IsFreeRunOf, AreFreeRuns, CoverTheRest, IsInRun}
-use Rattle.spot_terms.specs.Lists.{Includes, Ascends}
+use Rattle.spot_terms.specs.Lists.{Includes}
 use Rattle.spot_terms.specs.Whole.{Within}
 use Rattle.spot_terms.proofs.ListLemmas.{all_of, all_included, includes_front, includes_back, includes_either}
 use Rattle.spot_terms.proofs.Orders.{at_most_trans, at_most_below, antisymmetric, reflexive}

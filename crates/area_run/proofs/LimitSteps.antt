@@ -1,6 +1,5 @@
 -- The limits, step by step.
-use Rattle.std.proofs.Common.{◌≡◌, ◌∙◌, ◌⊎◌, inl, inr, refl, sym, ap, subst, arith, ℕ, ◌+◌, ◌<◌, ◌≤◌}
-use Rattle.std.proofs.lemmas.Bool.{cases_lt}
+use Rattle.std.proofs.Common.{◌≡◌, ◌∙◌, inl, inr, refl, sym, ap, subst, arith, ℕ, ◌+◌, ◌<◌, ◌≤◌}
 use lib.IntN.{ℤ}
 use Rattle.spot_terms.proofs.Sums.{sum_next, sum_none}
 use Rattle.spot_terms.specs.BaseSets.{Rect}

@@ -4,7 +4,7 @@ use Rattle.std.specs.Prelude.{nat_abs}
 use Rattle.std.proofs.Math.Facts.{to_z_pos}
 use Rattle.std.proofs.lemmas.Int.{ints, fits_signed_from_abs}
 use lib.IntN.{ℤ, pos, ◌+ℤ◌, ◌-ℤ◌}
-use lib.Signed.{◌≤ℤ◌, ◌<ℤ◌}
+use lib.Signed.{◌≤ℤ◌}
 use Rattle.spot_terms.specs.BaseSets.{Rect, SetValue}
 use Rattle.spot_terms.specs.Courses.{box_at, slots_met}
 use Rattle.spot_terms.specs.Grid.{slot, IsRemoved, AreFreeRuns, CoverTheRest}

@@ -1,6 +1,6 @@
 -- Where a run starts.
-use Rattle.std.proofs.Common.{◌≡◌, ℕ, suc, zero, ◌+◌, ◌*◌, ◌<◌, ◌≤◌, inl, inr, refl, sym, ap, subst, arith, rules, List, [], ◌∷◌, true, false, ℤ, pos, ◌≤ℤ◌, ◌<ℤ◌}
-use Rattle.std.specs.Prelude.{Bool, IsTrue, int_lt, nat_abs, ◌↔◌}
+use Rattle.std.proofs.Common.{◌≡◌, ℕ, ◌+◌, ◌<◌, ◌≤◌, inl, inr, refl, sym, ap, subst, arith, List, [], ◌∷◌, ℤ, pos, ◌≤ℤ◌, ◌<ℤ◌}
+use Rattle.std.specs.Prelude.{Bool, IsTrue, nat_abs, ◌↔◌}
 use Rattle.std.proofs.lemmas.Int.{ints, by_lt_z}
 use Rattle.spot_terms.specs.BaseSets.{Rect, SetValue}
 use Rattle.spot_terms.specs.Courses.{box_at, cells_of, slots_met}

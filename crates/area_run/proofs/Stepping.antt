@@ -1,5 +1,5 @@
 -- From one step to the next.
-use Rattle.std.proofs.Common.{◌≡◌, ℕ, suc, ◌+◌, ◌<◌, ◌≤◌, arith, sym, subst, List, []}
+use Rattle.std.proofs.Common.{◌≡◌, ℕ, ◌+◌, ◌<◌, ◌≤◌, arith, sym, subst, List, []}
 use lib.IntN.{ℤ, pos, ◌+ℤ◌}
 use lib.Signed.{◌≤ℤ◌}
 use Rattle.spot_terms.specs.BaseSets.{Rect, SetValue}

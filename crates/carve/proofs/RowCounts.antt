@@ -15,7 +15,7 @@ use Rattle.spot_terms.specs.Whole.{count_between, quotient_floor}
 use Rattle.spot_terms.proofs.Quotients.{product_le_at, next_product_gt_at, below_factor}
 use Rattle.spot_terms.proofs.Ring.{spread_left}
 use Rattle.carve.specs.RowSums.{sum_rows, RowsAreBoxes}
-use Rattle.spot_terms.proofs.Orders.{at_most_true, above_false, below_next, at_most_below, at_most_trans}
+use Rattle.spot_terms.proofs.Orders.{at_most_true, above_false, at_most_below, at_most_trans}
 use Rattle.carve.proofs.Shared.{not_shared}
 use Rattle.spot_terms.proofs.Slots.{slots_rise}
 

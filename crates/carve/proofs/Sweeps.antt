@@ -5,8 +5,6 @@ use Rattle.std.specs.List.{AllByRecursion}
 use Rattle.spot_terms.specs.Lists.{Includes}
 use Rattle.spot_terms.specs.Whole.{Within}
 use Rattle.spot_terms.proofs.ListLemmas.{includes_front, includes_back, includes_either, all_of}
-use Rattle.spot_terms.proofs.Ring.{spread_left}
-use Rattle.spot_terms.proofs.Quotients.{below_factor}
 use Rattle.spot_terms.specs.Grid.{slot_low, slot_high, IsFreeRun, AreInTurn, IsInRun}
 use Rattle.carve.specs.Taking.{AreRunsBefore, MayBegin}
 use Rattle.spot_terms.proofs.Slots.{one_slot}

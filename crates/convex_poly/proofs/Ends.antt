@@ -1,8 +1,8 @@
 -- The corners of the hull of two points.
-use Rattle.std.proofs.Common.{◌≡◌, ◌⊎◌, arith, refl, sym, inl, inr, [], ◌∷◌}
-use Rattle.std.proofs.lemmas.Int.{ints, by_lt_z}
+use Rattle.std.proofs.Common.{◌≡◌, ◌⊎◌, refl, sym, inl, inr, [], ◌∷◌}
+use Rattle.std.proofs.lemmas.Int.{by_lt_z}
 use lib.IntN.{ℤ}
-use lib.Signed.{◌≤ℤ◌, ◌<ℤ◌}
+use lib.Signed.{◌<ℤ◌}
 use Rattle.spot_terms.specs.declared.plain.Pt.{Pt}
 use Rattle.spot_terms.specs.Hull.{Before, IsHullOf}
 use Rattle.spot_terms.specs.Lists.{Includes}

@@ -1,5 +1,5 @@
 -- Spans that an edge narrows.
-use Rattle.std.proofs.Common.{◌≡◌, ℕ, ◌≤◌, arith, refl, sym, ap, ◌∙◌, subst, [], ◌∷◌, ◌⊎◌, inl, inr}
+use Rattle.std.proofs.Common.{◌≡◌, ℕ, ◌≤◌, arith, refl, sym, ap, ◌∙◌, subst, [], ◌∷◌, inl, inr}
 use Rattle.std.specs.Prelude.{nat_abs, ◌↔◌, Option, Some, None}
 use Rattle.std.specs.Int.{int_min}
 use Rattle.std.proofs.Math.Nat.{div-le_self}

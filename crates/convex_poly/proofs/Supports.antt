@@ -1,7 +1,6 @@
 -- The greatest value of a linear function, corner by corner.
-use Rattle.std.proofs.Common.{◌≡◌, ℕ, ◌+◌, ◌<◌, ◌≤◌, arith, sym, ap, ◌∙◌, subst, List, length, get_or, ◌⊎◌, inl, inr}
+use Rattle.std.proofs.Common.{◌≡◌, ℕ, ◌+◌, ◌<◌, ◌≤◌, arith, sym, ap, ◌∙◌, subst, List, length, get_or, inl, inr}
 use Rattle.std.specs.Int.{int_max}
-use Rattle.std.proofs.lemmas.Int.{ints}
 use lib.IntN.{ℤ}
 use lib.Signed.{◌≤ℤ◌}
 use Rattle.spot_terms.specs.declared.plain.Pt.{Pt}

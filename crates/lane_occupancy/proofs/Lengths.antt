@@ -10,7 +10,6 @@ use Rattle.spot_terms.specs.declared.plain.Pt.{Pt}
 use Rattle.spot_terms.proofs.Mixes.{positive_times}
 use Rattle.spot_terms.proofs.Products.{at_most_root, square_not_negative, square_of_size}
 use Rattle.spot_terms.proofs.Ring.{ring, var, num, ◌⊕◌, ◌⊖◌, ◌⊗◌}
-use Rattle.spot_terms.proofs.Roots.{root_order}
 use Rattle.lane_occupancy.specs.Laws.{ArePieces}
 use Rattle.spot_terms.proofs.Orders.{pos_injective, minus_itself, at_most_of_squares}
 

@@ -1,5 +1,5 @@
 -- The computed number of parts of a piece is the least that will do.
-use Rattle.std.proofs.Common.{ℕ, ◌+◌, ◌*◌, ◌/◌, ◌≤◌, max, arith, mul-le-mul}
+use Rattle.std.proofs.Common.{ℕ, ◌+◌, ◌*◌, ◌/◌, ◌≤◌, max, arith}
 use Rattle.spot_terms.specs.Cells.{part_count, side_square}
 use Rattle.spot_terms.specs.PartCounts.{PartCountsAre}
 use Rattle.spot_terms.specs.Whole.{root_ceiling}

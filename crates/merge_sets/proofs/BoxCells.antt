@@ -2,20 +2,19 @@
 use Rattle.std.proofs.Common.{◌≡◌, ◌∙◌, ◌⊎◌, ℕ, ◌+◌, ◌-◌, ◌*◌, ◌≤◌, ◌<◌, arith, ap, sym, refl, subst, inl, inr}
 use Rattle.std.specs.Prelude.{nat_abs}
 use Rattle.std.proofs.lemmas.Int.{ints}
-use lib.IntN.{ℤ, pos, ◌+ℤ◌, ◌-ℤ◌, ◌*ℤ◌}
-use lib.Signed.{◌≤ℤ◌, ◌<ℤ◌}
+use lib.IntN.{ℤ, pos, ◌+ℤ◌, ◌-ℤ◌}
+use lib.Signed.{◌≤ℤ◌}
 use Rattle.spot_terms.specs.Courses.{cells_of, slots_met}
 use Rattle.spot_terms.specs.Grid.{slot}
 use Rattle.spot_terms.specs.Whole.{Within, count_between, quotient_floor}
 use Rattle.spot_terms.proofs.QuotientBounds.{floor_between}
-use Rattle.spot_terms.proofs.Quotients.{quotient_floor-is, below_factor}
 use Rattle.spot_terms.proofs.Places.{compare3}
 use Rattle.base_sets.specs.declared.grid.Grid.{Grid}
 use Rattle.base_sets.specs.declared.grid.OuterBox.{OuterBox}
 use Rattle.base_sets.specs.Values.{IsBox, IsGrid, rect_of_box}
 use Rattle.merge_sets.specs.Tables.{IsCellOf, place_of}
 use Rattle.base_sets.proofs.Slots.{count_is}
-use Rattle.spot_terms.proofs.Orders.{row_before, factor_order, below_next}
+use Rattle.spot_terms.proofs.Orders.{row_before, factor_order}
 
 -- ---- natural numbers
 

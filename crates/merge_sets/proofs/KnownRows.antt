@@ -1,7 +1,6 @@
 -- A table after known numbers came in, and what it answers.
 use Rattle.std.proofs.Common.{◌≡◌, ◌∙◌, ◌⊎◌, ℕ, zero, suc, ◌+◌, ◌-◌, ◌*◌, ◌≤◌, ◌<◌, arith, ap, sym, refl, subst, List, length, inl, inr, false}
 use Rattle.std.specs.Prelude.{nat_abs, Option, Some, None, IfSome, option_map, slice_get}
-use Rattle.std.proofs.lemmas.Int.{ints}
 use Rattle.std.proofs.lemmas.Option.{none-some, same_Some, slice_get_within, slice_get-get_or}
 use lib.IntN.{ℤ, pos, ◌+ℤ◌, ◌-ℤ◌}
 use lib.Signed.{◌≤ℤ◌, ◌<ℤ◌}

@@ -16,7 +16,7 @@ use Rattle.spot_terms.specs.Whole.{Within, least, greatest}
 use Rattle.spot_terms.specs.declared.plain.Pt.{Pt}
 use Rattle.spot_terms.proofs.ListLemmas.{all_included, all_of, includes_map}
 use Rattle.spot_terms.proofs.Quotients.{product_le_at, next_product_gt_at}
-use Rattle.spot_terms.proofs.Ring.{ring, var, num, ◌⊕◌, ◌⊖◌, ◌⊗◌}
+use Rattle.spot_terms.proofs.Ring.{ring, var, ◌⊖◌, ◌⊗◌}
 use Rattle.merge_sets.specs.Cells.{IsNear}
 use Rattle.merge_sets.proofs.BoxCells.{counted_slots}
 use Rattle.merge_sets.proofs.PartSlots.{none_outside}

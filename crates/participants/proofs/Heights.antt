@@ -1,5 +1,5 @@
 -- The least and the greatest y of corners, and the numbers of octagons.
-use Rattle.std.proofs.Common.{◌≡◌, ◌∙◌, ℕ, zero, suc, ◌+◌, ◌<◌, ◌≤◌, List, [], ◌∷◌, map, take, length, get_or, ap, subst, arith, ℤ, pos, neg_ℤ, nat_abs, ◌-ℤ◌, FitsSigned, w64, fold}
+use Rattle.std.proofs.Common.{◌≡◌, ◌∙◌, ℕ, zero, suc, ◌+◌, ◌<◌, ◌≤◌, List, [], ◌∷◌, map, take, length, get_or, ap, subst, arith, ℤ, pos, nat_abs, ◌-ℤ◌, FitsSigned, w64, fold}
 use Rattle.std.specs.Int.{int_max, int_min}
 use Rattle.std.specs.List.{AllByRecursion}
 use Rattle.std.proofs.lemmas.Int.{ints, clamps}

@@ -1,6 +1,6 @@
 -- The pieces of a prediction are those of its scenario.
-use Rattle.std.proofs.Common.{◌≡◌, ◌∙◌, ℕ, zero, suc, ◌+◌, ◌-◌, ◌<◌, ◌≤◌, inl, inr, List, [], ◌∷◌, ◌++◌, map, length, Bool, true, false, Some, None, refl, sym, ap, subst, arith, cond, ℤ}
-use Rattle.std.specs.Prelude.{◌==◌, flat_map, filter, slice_index_or, if◌then◌else◌}
+use Rattle.std.proofs.Common.{◌≡◌, ◌∙◌, ℕ, zero, suc, ◌+◌, ◌-◌, ◌<◌, ◌≤◌, inl, inr, List, [], ◌∷◌, ◌++◌, map, length, Bool, true, false, Some, None, refl, sym, ap, subst, arith, ℤ}
+use Rattle.std.specs.Prelude.{◌==◌, flat_map, slice_index_or, if◌then◌else◌}
 use Rattle.std.proofs.lemmas.List.{length-map}
 use Rattle.spot_terms.specs.Cells.{Lane}
 use Rattle.spot_terms.specs.LanePolygons.{LanePolygon}

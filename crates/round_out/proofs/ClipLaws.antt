@@ -1,6 +1,6 @@
 -- What a clip keeps, by its points alone.
-use Rattle.std.proofs.Common.{◌⊎◌, inl, inr, refl, arith, subst, List, [], ◌∷◌, Option, Some, None}
-use Rattle.std.proofs.lemmas.Int.{ints, by_lt_z}
+use Rattle.std.proofs.Common.{◌⊎◌, inl, inr, refl, subst, List, [], ◌∷◌, Option, Some, None}
+use Rattle.std.proofs.lemmas.Int.{by_lt_z}
 use lib.IntN.{ℤ}
 use lib.Signed.{◌≤ℤ◌, ◌<ℤ◌}
 use Rattle.spot_terms.specs.declared.plain.Pt.{Pt}

@@ -1,5 +1,5 @@
 -- The radii of parts, and the greatest of several.
-use Rattle.std.proofs.Common.{◌≡◌, ◌∙◌, ◌⊎◌, inl, inr, ℕ, ◌+◌, ◌*◌, ◌-◌, ◌/◌, ◌<◌, ◌≤◌, min, max, ℤ, pos, List, [], ◌∷◌, ◌++◌, length, take, get_or, Option, Some, None, Bool, true, false, refl, sym, ap, subst, arith, mul-le-mul, take_all, codes, IfSome, IfNone, is_none}
+use Rattle.std.proofs.Common.{◌≡◌, ◌∙◌, ◌⊎◌, inl, inr, ℕ, ◌+◌, ◌*◌, ◌-◌, ◌/◌, ◌<◌, ◌≤◌, min, max, ℤ, pos, List, [], ◌∷◌, ◌++◌, length, take, get_or, Option, Some, None, Bool, true, refl, sym, ap, subst, arith, mul-le-mul, take_all, codes, IfSome, IfNone, is_none}
 use Rattle.std.specs.List.{list_all}
 use Rattle.std.proofs.lemmas.List.{take_more}
 use Rattle.spot_terms.proofs.ListLemmas.{includes_front}

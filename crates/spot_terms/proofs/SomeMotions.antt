@@ -1,7 +1,7 @@
 -- Motions by their values.
 use Rattle.std.proofs.Common.{◌≡◌, inl, inr, ℕ, zero, suc, ◌+◌, arith, refl, subst, List, [], ◌∷◌, length}
 use Rattle.std.proofs.lemmas.Int.{ints}
-use Rattle.std.specs.Prelude.{ℤ, pos, ◌+ℤ◌, ◌-ℤ◌, Some, slice_get}
+use Rattle.std.specs.Prelude.{ℤ, pos, ◌+ℤ◌, Some, slice_get}
 use Rattle.spot_terms.specs.Cells.{NetCell, cells, corners_of, part_count}
 use Rattle.spot_terms.specs.EgoMotions.{EgoTick, EgoSpeedAtMost, IsEgoMotion}
 use Rattle.spot_terms.specs.Hull.{FractionPt, whole_pt, InHullAt}

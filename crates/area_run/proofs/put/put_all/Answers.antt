@@ -1,6 +1,5 @@
 use Rattle.std.proofs.Common.{◌≡◌, ◌∙◌, ◌≤◌, ◌<◌, ℕ, ℤ, ◌+ℤ◌, pos, arith, refl, ap, sym, subst, w64, to_z, to_z-of_z, FitsSigned}
 use Rattle.std.specs.Prelude.{nat_abs}
-use Rattle.std.proofs.lemmas.Int.{ints}
 use Rattle.spot_terms.specs.Courses.{slots_met}
 use Rattle.spot_terms.specs.Grid.{slot}
 use Rattle.spot_terms.specs.Whole.{Within}

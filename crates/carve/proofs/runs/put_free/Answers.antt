@@ -1,4 +1,4 @@
-use Rattle.std.proofs.Common.{rules, to_z, of_z, ◌≡◌, ◌∙◌, ◌⊎◌, inl, inr, ℕ, ◌<◌, ◌≤◌, arith, to_z-of_z, FitsSigned, w64, ℤ, pos, ◌+ℤ◌, ◌-ℤ◌, ◌+◌, ◌-◌, ◌*ℤ◌, ◌≤ℤ◌, ◌<ℤ◌, nat_abs, length, List, [], subst, sym, refl, int_lt, int_le, ◌++◌, ◌∷◌, true, false}
+use Rattle.std.proofs.Common.{rules, to_z, of_z, ◌≡◌, ◌∙◌, ◌⊎◌, inl, inr, ℕ, ◌<◌, ◌≤◌, arith, to_z-of_z, FitsSigned, w64, ℤ, pos, ◌+ℤ◌, ◌-ℤ◌, ◌+◌, ◌-◌, ◌*ℤ◌, ◌≤ℤ◌, ◌<ℤ◌, nat_abs, length, List, [], subst, sym, refl, int_lt, ◌++◌, ◌∷◌, true, false}
 use Rattle.std.proofs.lemmas.Int.{ints, clamps, by_lt_z}
 use Rattle.spot_terms.specs.Whole.{Within}
 use Rattle.spot_terms.specs.Grid.{slot_low, AreFreeRuns}

@@ -1,4 +1,4 @@
-use Rattle.std.proofs.Common.{◌≡◌, ◌≤◌, ◌*◌, ◌^◌, ◌+◌, ℤ, pos, neg_ℤ, ◌-ℤ◌, arith, to_z-of_z, FitsSigned, rules, refl, nat_abs}
+use Rattle.std.proofs.Common.{◌≡◌, ◌≤◌, ◌*◌, ◌^◌, ◌+◌, neg_ℤ, arith, to_z-of_z, FitsSigned, rules, refl, nat_abs}
 use Rattle.std.proofs.lemmas.Int.{ints}
 use Rattle.std.specs.Int.{w128, w64}
 use Rattle.spot_terms.specs.Directions.{rough_sum}

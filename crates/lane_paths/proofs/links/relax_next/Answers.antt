@@ -1,4 +1,4 @@
-use Rattle.std.proofs.Common.{◌≡◌, ◌∙◌, ◌<◌, ◌≤◌, ℕ, Bool, true, false, refl, arith}
+use Rattle.std.proofs.Common.{◌∙◌, ◌<◌, ◌≤◌, ℕ, true, false, refl, arith}
 use Rattle.std.specs.Prelude.{pos}
 use Rattle.lane_paths.specs.Relaxations.{size_of}
 use Rattle.lane_paths.proofs.ShortestLengthLaws.{taken, taken_within, taken_places, taken_less, passed_over, gone_on, places_same}
