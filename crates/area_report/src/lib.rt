@@ -7,3 +7,6 @@ mod problem;
 
 pub use area::write_area;
 pub use problem::ego_of;
+
+#[cfg(test)]
+mod tests;

@@ -241,7 +241,7 @@ module _ (course : Course) (count : ℕ → ℕ) (At : ℕ → ℕ → Pt → Ty
   follow_within i (b ∷ sets) [] k le f = absurd (let e : Empty k ≡ Open = f.1 in cc)
   follow_within i (b ∷ sets) (next ∷ later) k le f = follow_within (suc i) next later k (let l = f.0 in omega (arith, l)) f.2
 
-  ends_within : (lists : List (List SetValue)) (k : ℕ) → AreStepLists course count At n lists (Empty k) → k ≤ n
+  pub ends_within : (lists : List (List SetValue)) (k : ℕ) → AreStepLists course count At n lists (Empty k) → k ≤ n
   ends_within [] k are = absurd are
   ends_within (first ∷ later) k are = follow_within 0 first later k (omega arith) are.1
 

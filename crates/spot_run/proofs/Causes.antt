@@ -3,18 +3,14 @@ use Rattle.std.proofs.Common.{◌≡◌, ◌≢◌, ◌∙◌, ◌⊎◌, inl, i
 use Rattle.spot_terms.specs.declared.limits.TheConstants.{MOST_BYTES}
 use Rattle.std.specs.Prelude.{IfSome}
 use Rattle.spot_terms.specs.Causes.{Takes}
-use Rattle.spot_terms.specs.BaseSets.{SetValue}
-use Rattle.spot_terms.specs.Courses.{Course}
 use Rattle.spot_terms.specs.Pieces.{Hits}
 use Rattle.spot_terms.specs.Statuses.{IsDone}
-use Rattle.spot_terms.specs.StepLists.{Follow, AreStepLists}
 use Rattle.spot_terms.specs.Tasks.{ReadsInput, PredictsTraffic, FindsArea}
 use Rattle.spot_terms.specs.declared.command.Command.{Command}
 use Rattle.spot_terms.specs.declared.command.Task.{Task}
 use Rattle.spot_terms.specs.declared.command.Task.TheVariants.{Predict, Area}
 use Rattle.spot_terms.specs.declared.lines.End.{End}
 use Rattle.spot_terms.specs.declared.lines.End.TheVariants as end
-use Rattle.spot_terms.specs.declared.plain.Pt.{Pt}
 use Rattle.spot_terms.specs.declared.scenario.Scenario.{Scenario}
 use Rattle.spot_terms.specs.declared.status.Code.{Code}
 use Rattle.spot_terms.specs.declared.status.Code.TheVariants.{NotJson, NotTree, NoProblem, LateProblem, EgoTooFast, NotYet}
@@ -23,6 +19,7 @@ use Rattle.spot_terms.specs.declared.status.Status.{Status}
 use Rattle.spot_terms.specs.declared.status.Status.TheVariants.{Open, Empty, BadWords, Refused, Limit, ReadFault, WriteFault, Memory}
 use Rattle.spot_tree.proofs.Readings.{one_tree, one_place, tree_is_json, fault_is_json, tree_has_no_fault}
 use Rattle.scenario.proofs.OneRefusal.{one_refusal}
+use Rattle.spot_claims.proofs.AreaCovers.{ends_within}
 use Rattle.spot_claims.specs.Answers.{IsOutside, ExactlyWhere, BadWordsExactly, ReadFaultOnly, TooLongExactly, NotJsonExactly, NotTreeExactly, IsRefusedAt, IsOfCheck, RefusedExactly, ExactlyFor, HasNoProblem, NoProblemExactly, HasLateProblem, LateProblemExactly, HasFastProblem, EgoTooFastExactly, HasManyCells, TooManyCellsExactly, HasWideLane, LaneTooWideExactly, HasManyPairs, TooManyLanePolygonsExactly, HasWideArea, AreaTooWideExactly, HasManyBoxes, TooManyBoxesExactly, WriteFaultOnly, NotYetExactly, EndsEmpty, AreFor, IsKnownAs, IsKnown}
 use Rattle.spot_claims.specs.Built.{IsBuilt, IsBuiltWhole}
 use Rattle.spot_claims.specs.Headline.{Headline}
@@ -120,7 +117,7 @@ no_command_holds run e nothing = record {
 
 whole_is_built : (task : Task) → IsBuiltWhole task → IsBuilt task
 whole_is_built Predict h = tt
-whole_is_built Area h = absurd h
+whole_is_built Area h = tt
 whole_is_built task h = absurd h
 
 not_built_holds : (run : Run) (c : Command) → run.status ≡ Refused NotYet 0 → run.Stands c → ((d : Command) → run.Stands d → d ≡ c) → (IsBuilt c.task → ⊥) → AllHold run
@@ -396,22 +393,13 @@ cause_of run c s Cause answer h is comes = exactly_for run c Cause answer h.for 
 })
 
 -- a run that ends empty ends at one of its steps
-follow_within : (course : Course) (count : ℕ → ℕ) (Hits : ℕ → ℕ → Pt → Type 0) (n i j : ℕ) (sets : List SetValue) (later : List (List SetValue)) → Follow course count Hits n i sets later (end.Empty j) → i ≤ n → j ≤ n
-follow_within course count Hits n i j [] later f h = let same : end.Empty j ≡ end.Empty i = f.1 in let at : j ≡ i = cc in omega (arith, at, h)
-follow_within course count Hits n i j (b ∷ sets) [] f h = let goes : end.Empty j ≡ end.Open = f.1 in cc
-follow_within course count Hits n i j (b ∷ sets) (next ∷ later) f h = let less = f.0 in follow_within course count Hits n (suc i) j next later f.2 (omega (arith, less))
-
-lists_within : (course : Course) (count : ℕ → ℕ) (Hits : ℕ → ℕ → Pt → Type 0) (n j : ℕ) (lists : List (List SetValue)) → AreStepLists course count Hits n lists (end.Empty j) → j ≤ n
-lists_within course count Hits n j [] are = absurd are
-lists_within course count Hits n j (sets ∷ later) are = follow_within course count Hits n 0 j sets later are.1 (omega arith)
-
 area_within : (s : Scenario) (c : Command) (text : List ℕ) (ends : End) (i : ℕ) → IsOutputOf Area s c text ends → Empty i ≡ status_of Area ends → i ≤ c.steps
 area_within s c text end.Done i output e = cc
 area_within s c text end.Open i output e = cc
 area_within s c text (end.Empty j) i output e =
     let at : i ≡ j = cc in
     let run = output.report.run in
-    subst (λ (k : ℕ). k ≤ c.steps) (sym at) (lists_within (course_of s c output.report.problem) (λ k. length (output.report.pieces k)) (λ k. Hits (output.report.pieces k)) c.steps j output.report.lists run.lists_are)
+    subst (λ (k : ℕ). k ≤ c.steps) (sym at) (ends_within (course_of s c output.report.problem) (λ k. length (output.report.pieces k)) (λ k. Hits (output.report.pieces k)) c.steps output.report.lists j run.lists_are)
 
 empty_known : (task : Task) (s : Scenario) (c : Command) (text : List ℕ) (ends : End) (i : ℕ) → IsBuilt task → IsOutputOf task s c text ends → Empty i ≡ status_of task ends → EndsEmpty task × (i ≤ c.steps)
 empty_known Predict s c text end.Done i built output e = cc

@@ -10,3 +10,6 @@ pub mod Limits
 pub mod Causes
 pub mod Refusals
 pub mod Predictions
+pub mod AreaLines
+pub mod AreaReports
+pub mod AreaTells

@@ -74,7 +74,7 @@ task_reads task h = absurd h
 
 task_whole : (task : Task) → IsBuilt task → IsBuiltWhole task
 task_whole Predict h = tt
-task_whole Area h = absurd h
+task_whole Area h = tt
 task_whole task h = absurd h
 
 task_predicts : (task : Task) → IsBuilt task → PredictsTraffic task

@@ -1,4 +1,5 @@
 -- What the top call writes and reads.
+pub mod Areas
 pub mod Lines
 pub mod Loads
 pub mod RunOf

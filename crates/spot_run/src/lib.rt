@@ -1,9 +1,11 @@
 //! The top call: from the words and the bytes of a scenario to the bytes of a report.
 #![tactic(auto)]
 
+mod area;
 mod load;
 mod report;
 mod run;
+mod traffic;
 
 pub use run::run_spot;
 pub use spot_terms::{Code, Status, Which};

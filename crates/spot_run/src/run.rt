@@ -1,14 +1,13 @@
 //! The top call.
 
-ghost use Rattle.std.specs.Prelude.{◌≡◌, ◌↔◌, ℕ, ◌≤◌, IfOk, IfErr, IsTrue};
+ghost use Rattle.std.specs.Prelude.{◌≡◌, ◌↔◌, ◌≤◌, IsTrue};
 ghost use Rattle.lanelets.specs.Buildable.{AreBuildable};
 ghost use Rattle.spot_terms.specs.Causes.{Rose};
 ghost use Rattle.spot_terms.specs.Ids.{HaveUniqueIds};
-ghost use Rattle.spot_terms.specs.Limits.{HasNetwork};
 ghost use Rattle.spot_terms.specs.Ranges.{IsCommandInRange, IsInRange};
 ghost use Rattle.spot_run.specs.RunOf.{run_of};
 ghost use Rattle.spot_run.specs.Tells.{TakesFor, Tells};
-ghost use Rattle.spot_run.specs.Writes.{IsPastLimit, IsPredicted, TakesPrediction, WritesPrediction};
+ghost use Rattle.spot_run.specs.Writes.{TakesPrediction, WritesPrediction};
 ghost use Rattle.spot_words.specs.Words.{StandsFor};
 ghost use Rattle.spot_claims.specs.Answers.{AreaTooWideExactly, BadWordsExactly, EgoTooFastExactly, IsKnown, LaneTooWideExactly, LateProblemExactly, NoProblemExactly, NotJsonExactly, NotTreeExactly, NotYetExactly, ReadFaultOnly, RefusedExactly, TooLongExactly, TooManyBoxesExactly, TooManyCellsExactly, TooManyLanePolygonsExactly, WriteFaultOnly};
 ghost use Rattle.spot_claims.specs.Built.{IsBuilt};
@@ -17,46 +16,14 @@ ghost use Rattle.spot_claims.specs.Outcomes.{Completes, ReadsSource, TakesOutput
 ghost use Rattle.spot_claims.specs.Outputs.{IsWritten};
 ghost use Rattle.spot_claims.specs.Stages.{AreForReading};
 
+use crate::area::write_area_report;
 use crate::load::load;
 use crate::report::write_prediction;
-use lanelets::{NetFault, Network, build};
-use participants::{PredictFault, Prediction, predict};
+use crate::traffic::prediction_of;
 use spot_io::{Sink, Source};
-use spot_terms::{Code, Command, MOST_STEPS, Scenario, Status, Task, Which};
+use spot_terms::{Code, Command, MOST_STEPS, Scenario, Status, Task};
 use spot_words::read_words;
 use std::alloc::Global;
-
-// The network of a scenario, or the status that says why there is none.
-fn network_of(alloc: Global, scenario: &Scenario) -> Result<Network, Status>
-    requires { AreBuildable scenario.now.lanelets.entries }
-    ensures ok { IfOk result (λ net. (net ≡ scenario.now.lanelets.entries) × HasNetwork scenario.now.lanelets.entries) }
-    ensures err { IfErr result (λ status. (steps : ℕ) → IsPastLimit scenario.now steps status) }
-{
-    match build(alloc, &scenario.lanelets) {
-        Ok(net) => Ok(net),
-        Err(NetFault::TooManyCells(count)) => Err(Status::Limit(Which::TooManyCells, 0, count)),
-        Err(NetFault::LaneTooWide(id)) => Err(Status::Limit(Which::LaneTooWide, 0, u64::from(id))),
-        Err(NetFault::Memory) => Err(Status::Memory),
-    }
-}
-
-// The prediction of a scenario, or the status that says why there is none.
-fn prediction_of(alloc: Global, scenario: &Scenario, steps: u32) -> Result<Prediction, Status>
-    requires range { IsInRange scenario.now }
-    requires lanes { AreBuildable scenario.now.lanelets.entries }
-    requires steps { (1 ≤ steps) × (steps ≤ MOST_STEPS) }
-    ensures ok { IfOk result (λ p. IsPredicted scenario.now steps p) }
-    ensures err { IfErr result (λ status. IsPastLimit scenario.now steps status) }
-{
-    let net = network_of(alloc, scenario)?;
-    match predict(alloc, scenario, &net, steps) {
-        Ok(prediction) => Ok(prediction),
-        Err(PredictFault::TooManyLanePolygons(count)) => {
-            Err(Status::Limit(Which::TooManyLanePolygons, 0, count))
-        }
-        Err(PredictFault::Memory) => Err(Status::Memory),
-    }
-}
 
 // Predicts a scenario and writes the report.
 fn write_report<K: Sink>(alloc: Global, scenario: &Scenario, steps: u32, sink: &mut K) -> Status
@@ -84,8 +51,8 @@ fn is_built(task: Task) -> bool
     ensures { IsTrue result ↔ IsBuilt task }
 {
     match task {
-        Task::Predict => true,
-        Task::Area | Task::Replay | Task::Draw | Task::Sample => false,
+        Task::Predict | Task::Area => true,
+        Task::Replay | Task::Draw | Task::Sample => false,
     }
 }
 
@@ -109,15 +76,18 @@ fn write_output<K: Sink>(
 {
     match command.task {
         Task::Predict => write_report(alloc, scenario, command.steps, sink),
-        Task::Area | Task::Replay | Task::Draw | Task::Sample => Status::Refused(Code::NotYet, 0),
+        Task::Area => write_area_report(alloc, scenario, command, sink),
+        Task::Replay | Task::Draw | Task::Sample => Status::Refused(Code::NotYet, 0),
     }
 }
 
 /// Reads a scenario and writes the report that the words ask for. The first word is the program's own name.
 ///
-/// What is built so far is the mode `predict`; every other mode is refused as `NotYet`. All values of the report are
-/// computed before the first byte is written, and writing takes no memory. After a refusal, a limit, a read fault or want
-/// of memory nothing was written; after a write fault a front of the report was.
+/// What is built so far are the modes `predict` and `area`; every other mode is refused as `NotYet`. All values of a
+/// prediction are computed before the first byte is written, and all memory for the steps of an area is taken before it:
+/// the base sets of a step are written before the next step is computed. Writing takes no memory. After a refusal, a limit,
+/// a read fault or want of memory nothing was written; after a write fault a front of the report was, or of what it begins
+/// with.
 pub fn run_spot<S: Source, K: Sink>(
     alloc: Global,
     words: &Vec<String>,

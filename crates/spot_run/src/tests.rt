@@ -41,6 +41,42 @@ const LONG: &[u8] =
 const WIDE: &[u8] =
     br#"["commonRoad",{"commonRoadVersion":"2020a","timeStepSize":"0.1"},["lanelet",{"id":"5"},["leftBound",["point",["x","0"],["y","100.000001"]],["point",["x","2"],["y","100.000001"]]],["rightBound",["point",["x","0"],["y","0"]],["point",["x","2"],["y","0"]]]]]"#;
 
+const AT_REST: &[u8] =
+    br#"["commonRoad",{"commonRoadVersion":"2020a","timeStepSize":"0.1"},["planningProblem",{"id":"1"},["initialState",["position",["point",["x","0"],["y","0"]]],["orientation",["exact","0"]],["velocity",["exact","0"]],["time",["exact","0"]]]]]"#;
+
+const FROM_REST: &[u8] = b"spot 1 area
+time 100 1
+ego 1 8 50000 2000000 1000000 0 0 -1 1 -1 1
+set 0 0 0 x 2 0 -1 0 1 y 2 0 -1 0 1
+count 0 1
+set 1 -1 -1 x 6 -40100 -801 -40001 -801 -1 -401 -1 401 -99 401 -40100 -400 y 6 -40100 -801 -40001 -801 -1 -401 -1 401 -99 401 -40100 -400
+set 1 -1 0 x 6 -40100 -801 -40001 -801 -1 -401 -1 401 -99 401 -40100 -400 y 6 0 -401 100 -400 40100 400 40100 801 40000 801 0 401
+set 1 0 -1 x 6 0 -401 100 -400 40100 400 40100 801 40000 801 0 401 y 6 -40100 -801 -40001 -801 -1 -401 -1 401 -99 401 -40100 -400
+set 1 0 0 x 6 0 -401 100 -400 40100 400 40100 801 40000 801 0 401 y 6 0 -401 100 -400 40100 400 40100 801 40000 801 0 401
+count 1 4
+open
+";
+
+const INSIDE: &[u8] =
+    br#"["commonRoad",{"commonRoadVersion":"2020a","timeStepSize":"0.1"},["staticObstacle",{"id":"2"},["type","unknown"],["shape",["circle",["radius","50"]]],["initialState",["position",["point",["x","0"],["y","0"]]],["orientation",["exact","0"]],["velocity",["exact","0"]],["time",["exact","0"]]]],["planningProblem",{"id":"1"},["initialState",["position",["point",["x","0"],["y","0"]]],["orientation",["exact","0"]],["velocity",["exact","0"]],["time",["exact","0"]]]]]"#;
+
+const NO_WAY_OUT: &[u8] = b"spot 1 area
+time 100 1
+fixed 2 50000000 70710678 50000000 70710678 50000000 70710678 50000000 70710678
+ego 1 8 50000 2000000 1000000 0 0 -1 1 -1 1
+count 0 0
+empty 0
+";
+
+const LATE: &[u8] =
+    br#"["commonRoad",{"commonRoadVersion":"2020a","timeStepSize":"0.1"},["planningProblem",{"id":"1"},["initialState",["position",["point",["x","0"],["y","0"]]],["orientation",["exact","0"]],["velocity",["exact","0"]],["time",["exact","3"]]]]]"#;
+
+const FAST: &[u8] =
+    br#"["commonRoad",{"commonRoadVersion":"2020a","timeStepSize":"0.1"},["planningProblem",{"id":"1"},["initialState",["position",["point",["x","0"],["y","0"]]],["orientation",["exact","0"]],["velocity",["exact","10"]],["time",["exact","0"]]]]]"#;
+
+const LONG_STEPS: &[u8] =
+    br#"["commonRoad",{"commonRoadVersion":"2020a","timeStepSize":"1"},["planningProblem",{"id":"1"},["initialState",["position",["point",["x","0"],["y","0"]]],["orientation",["exact","0"]],["velocity",["exact","0"]],["time",["exact","0"]]]]]"#;
+
 fn words(alloc: Global, line: &[&str]) -> Result<Vec<String>, Fail> {
     let mut words = Vec::new(alloc);
     for word in line {
@@ -60,6 +96,15 @@ fn run(
     let words = words(alloc, line)?;
     let mut source = mem_source(alloc, bytes, 16, read_fails)?;
     let mut sink = mem_sink(alloc, 1000, 16, write_fails)?;
+    let status = run_spot(alloc, &words, &mut source, &mut sink);
+    Ok((status, sink))
+}
+
+// Runs a command line on bytes that come one a call, and writes one a call.
+fn run_by_bytes(alloc: Global, line: &[&str], bytes: &[u8]) -> Result<(Status, MemSink), Fail> {
+    let words = words(alloc, line)?;
+    let mut source = mem_source(alloc, bytes, 1, &[])?;
+    let mut sink = mem_sink(alloc, 1000, 1, &[])?;
     let status = run_spot(alloc, &words, &mut source, &mut sink);
     Ok((status, sink))
 }
@@ -136,9 +181,65 @@ fn what_is_no_report_says_why(rt: HostRuntime) -> Result<(), Fail> {
     assert_eq!(rt; status, Status::Refused(Code::NotTree, 1));
     let (status, _) = run(rt.alloc(), &predict, br#"["commonRoad"]"#, &[], &[])?;
     assert_eq!(rt; status, Status::Refused(Code::Version, 0));
-    let (status, _) = run(rt.alloc(), &["spot", "area"], CIRCLE, &[], &[])?;
+    let (status, _) = run(rt.alloc(), &["spot", "replay"], CIRCLE, &[], &[])?;
     assert_eq!(rt; status, Status::Refused(Code::NotYet, 0));
     let (status, _) = run(rt.alloc(), &["spot", "fly"], CIRCLE, &[], &[])?;
     assert_eq!(rt; status, Status::BadWords);
+    Ok(())
+}
+
+#[test]
+fn the_area_of_an_ego_at_rest(rt: HostRuntime) -> Result<(), Fail> {
+    let line = ["spot", "area", "--steps", "1"];
+    let (status, sink) = run(rt.alloc(), &line, AT_REST, &[], &[])?;
+    assert_eq!(rt; status, Status::Open);
+    assert_eq!(rt; sink.bytes.as_slice(), FROM_REST);
+    let (status, sink) = run_by_bytes(rt.alloc(), &line, AT_REST)?;
+    assert_eq!(rt; status, Status::Open);
+    assert_eq!(rt; sink.bytes.as_slice(), FROM_REST);
+    Ok(())
+}
+
+#[test]
+fn an_ego_inside_an_obstacle_has_no_area(rt: HostRuntime) -> Result<(), Fail> {
+    let line = ["spot", "area", "--steps", "1"];
+    let (status, sink) = run(rt.alloc(), &line, INSIDE, &[], &[])?;
+    assert_eq!(rt; status, Status::Empty(0));
+    assert_eq!(rt; sink.bytes.as_slice(), NO_WAY_OUT);
+    Ok(())
+}
+
+#[test]
+fn a_problem_that_is_refused_writes_nothing(rt: HostRuntime) -> Result<(), Fail> {
+    let (status, sink) = run(rt.alloc(), &["spot", "area"], CIRCLE, &[], &[])?;
+    assert_eq!(rt; status, Status::Refused(Code::NoProblem, 0));
+    assert!(rt; sink.bytes.is_empty());
+    let (status, sink) = run(rt.alloc(), &["spot", "area"], LATE, &[], &[])?;
+    assert_eq!(rt; status, Status::Refused(Code::LateProblem, 1));
+    assert!(rt; sink.bytes.is_empty());
+    let slow = ["spot", "area", "--ego-speed", "1"];
+    let (status, sink) = run(rt.alloc(), &slow, FAST, &[], &[])?;
+    assert_eq!(rt; status, Status::Refused(Code::EgoTooFast, 1));
+    assert!(rt; sink.bytes.is_empty());
+    Ok(())
+}
+
+#[test]
+fn an_area_that_is_too_wide_writes_nothing(rt: HostRuntime) -> Result<(), Fail> {
+    let line = ["spot", "area", "--steps", "10", "--ego-speed", "100"];
+    let (status, sink) = run(rt.alloc(), &line, LONG_STEPS, &[], &[])?;
+    assert_eq!(rt; status, Status::Limit(Which::AreaTooWide, 7, 78_012));
+    assert!(rt; sink.bytes.is_empty());
+    Ok(())
+}
+
+#[test]
+fn a_write_fault_in_a_step_leaves_a_front(rt: HostRuntime) -> Result<(), Fail> {
+    let line = ["spot", "area", "--steps", "1"];
+    let (status, sink) = run(rt.alloc(), &line, AT_REST, &[], &[20])?;
+    assert_eq!(rt; status, Status::WriteFault);
+    assert!(rt; sink.bytes.len() > 100);
+    assert!(rt; sink.bytes.len() < FROM_REST.len());
+    assert!(rt; FROM_REST.starts_with(sink.bytes.as_slice()));
     Ok(())
 }

@@ -1,5 +1,5 @@
 use Rattle.std.proofs.Common.{◌≡◌, Result, Ok, Err, IfErr, IsErrAnd, subst, sym}
-use Rattle.spot_run.proofs.run.prediction_of.Goals as goal
+use Rattle.spot_run.proofs.traffic.prediction_of.Goals as goal
 
 -- what is true of an error is true of it where it is handed on
 handed_on : {T E : Type 0} (r : Result T E) (e : E) (P : E → Type 0) → IsErrAnd r (λ y. y ≡ e) → P e → IfErr r P
