@@ -11,6 +11,7 @@ use Rattle.spot_terms.specs.Hull.{Before, IsCornerList, IsSupport}
 use Rattle.spot_terms.specs.Reach.{along}
 use Rattle.spot_terms.specs.Whole.{greatest, least}
 use Rattle.convex_poly.specs.Polygons.{IsPolygon, IsPosition}
+use Rattle.spot_terms.proofs.ListLemmas.{all_included}
 use Rattle.spot_terms.proofs.Supports.{supports_are}
 use Rattle.convex_poly.proofs.RunRows.{before_x}
 use Rattle.spot_terms.proofs.Orders.{first_alone}
@@ -48,3 +49,20 @@ support_east (v ∷ vs) = ap (λ (z : ℤ). greatest z (map (along (pos 1, pos 0
 
 pub last_place : (vs : List Pt) (r : ℤ) → IsSupport vs (pos 1) (pos 0) r → r ≡ greatest_place vs
 last_place vs r s = sym (supports_are.one (pos 1, pos 0) vs r s) ∙ support_east vs
+
+pub support_size : (vs : List Pt) (r : ℤ) → IsPolygon vs → IsSupport vs (pos 1) (pos 0) r → nat_abs r ≤ 40_000_000_000_000
+support_size vs r p s = let (c, i, e) = s.reached in near c.x c.y r (all_included IsPosition vs c p.positions i).x e
+  where
+    near : (x y r : ℤ) → nat_abs x ≤ 40_000_000_000_000 → pos 1 *ℤ x +ℤ pos 0 *ℤ y ≡ r → nat_abs r ≤ 40_000_000_000_000
+    near x y r h e = omega (arith, ints, h, e)
+
+-- the first corner of a polygon is near
+pub first_size : (vs us : List Pt) (d : Pt) → us ≡ vs → IsPolygon vs → nat_abs (to_z w64 (of_z w64 (get_or us 0 d).x)) ≤ 40_000_000_000_000
+first_size vs us d e h = subst (λ (z : List Pt). nat_abs (to_z w64 (of_z w64 (get_or z 0 d).x)) ≤ 40_000_000_000_000) (sym e) (at vs h.convex h.positions)
+  where
+    read : (z : ℤ) → nat_abs z ≤ 40_000_000_000_000 → nat_abs (to_z w64 (of_z w64 z)) ≤ 40_000_000_000_000
+    read z h = omega (arith, ints)
+
+    at : (vs : List Pt) → IsCornerList vs → AllByRecursion IsPosition vs → nat_abs (to_z w64 (of_z w64 (get_or vs 0 d).x)) ≤ 40_000_000_000_000
+    at [] c p = absurd c
+    at (a ∷ rest) c p = read a.x p.0.x

@@ -31,9 +31,14 @@ impl BaseSet {
         self.x.contains(Pt { x, y: vx }) && self.y.contains(Pt { x: y, y: vy })
     }
 
-    /// The least x, the greatest x, the least y and the greatest y of the set's places, in µm.
+    /// The least x, the greatest x, the least y and the greatest y of the set's places, in µm. Each is at most 4·10^13 in
+    /// size.
     pub fn rect(&self) -> (i64, i64, i64, i64)
-        ensures { record { xlo = result.0; xhi = result.1; ylo = result.2; yhi = result.3 } ≡ rect_of (value_of self.now) }
+        ensures exact { record { xlo = result.0; xhi = result.1; ylo = result.2; yhi = result.3 } ≡ rect_of (value_of self.now) }
+        ensures least_x { SizeAtMost 40_000_000_000_000 result.0 }
+        ensures greatest_x { SizeAtMost 40_000_000_000_000 result.1 }
+        ensures least_y { SizeAtMost 40_000_000_000_000 result.2 }
+        ensures greatest_y { SizeAtMost 40_000_000_000_000 result.3 }
     {
         (
             self.x.corners()[0].x,

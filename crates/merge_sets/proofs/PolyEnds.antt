@@ -28,9 +28,3 @@ places_order (v ∷ vs) = between v.x (map (λ d. d.x) vs)
 
     between : (z : ℤ) (xs : List ℤ) → least z xs ≤ℤ greatest z xs
     between z xs = at_most_trans (least z xs) z (greatest z xs) (least_at_most z z xs (omega (arith, ints))) (at_least z z xs (omega (arith, ints)))
-
-pub support_size : (vs : List Pt) (r : ℤ) → IsPolygon vs → IsSupport vs (pos 1) (pos 0) r → nat_abs r ≤ 40_000_000_000_000
-support_size vs r p s = let (c, i, e) = s.reached in near c.x c.y r (all_included IsPosition vs c p.positions i).x e
-  where
-    near : (x y r : ℤ) → nat_abs x ≤ 40_000_000_000_000 → pos 1 *ℤ x +ℤ pos 0 *ℤ y ≡ r → nat_abs r ≤ 40_000_000_000_000
-    near x y r h e = omega (arith, ints, h, e)

@@ -6,8 +6,8 @@ use Rattle.spot_terms.proofs.Quotients.{int_div_euclid-floor}
 use Rattle.spot_terms.specs.BaseSets.{least_place, greatest_place}
 use Rattle.spot_terms.specs.Courses.{slots_met}
 use Rattle.convex_poly.proofs.Wide.{back}
-use Rattle.base_sets.proofs.Places.{first_place, last_place}
-use Rattle.merge_sets.proofs.PolyEnds.{places_order, support_size}
+use Rattle.base_sets.proofs.Places.{first_place, last_place, support_size}
+use Rattle.merge_sets.proofs.PolyEnds.{places_order}
 use Rattle.merge_sets.proofs.adding.slots_of.Goals as goal
 
 pub slots_met-requires-clause-order : goal.slots_met-requires-clause-order

@@ -1,0 +1,2 @@
+-- What the shapes of a drawing stand for.
+pub mod Shapes
