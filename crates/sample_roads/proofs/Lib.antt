@@ -1,0 +1,13 @@
+pub mod JsonLayer
+pub mod TreeLayer
+pub mod Numbers
+pub mod Tables
+pub mod Texts
+pub mod Clean
+pub mod Passing
+pub mod Found
+pub mod Lines
+pub mod Special
+pub mod Whole
+pub mod Appended
+pub mod Draws

@@ -1,0 +1,4 @@
+-- How made scenarios are written and read.
+pub mod Accepted
+pub mod JsonOf
+pub mod Written
