@@ -15,6 +15,7 @@ use Rattle.spot_terms.proofs.ItemPlaces.{got_included}
 use Rattle.spot_terms.proofs.ListLemmas.{all_included}
 use Rattle.base_sets.specs.Values.{IsGrid, rect_of_box}
 use Rattle.base_sets.specs.declared.grid.OuterBox.{OuterBox}
+use Rattle.merge_sets.specs.Planes.{HasTicks}
 use Rattle.merge_sets.specs.Tables.{IsMergedIn, Table}
 use Rattle.merge_sets.specs.BoxSlots.{AreNear}
 use Rattle.merge_sets.specs.declared.places.BoxSlots.{BoxSlots}
@@ -184,6 +185,10 @@ module _ (plan : Plan) (step : ℕ) (count : ℕ) (Hits : ℕ → Pt → Type 0)
         let there : Advances plan step count Hits range t (left +ℤ pos i) row now ((left +ℤ pos i) +ℤ pos 1) row new = subst (λ (z : ℤ). Advances plan step count Hits range t z row now (z +ℤ pos 1) row new) e g in
         let next : Advances plan step count Hits range t (left +ℤ pos i) row now (left +ℤ pos (i + 1)) row new = subst (λ (z : ℤ). Advances plan step count Hits range t (left +ℤ pos i) row now z row new) (next_place left i) there in
         advance_then left row (left +ℤ pos i) row (left +ℤ pos (i + 1)) row old now new f next
+
+    -- the ticks of the step that the table was filled for
+    pub ticks_of : (col row : ℤ) (sets : List SetValue) (k : ℕ) → k ≡ plan.k → HasSetsBefore plan step count Hits range t col row sets → HasTicks t k
+    ticks_of col row sets k e (before, filled, are) = subst (λ (n : ℕ). HasTicks t n) (sym e) (filled.o, filled.grid, filled.begun.step)
 
     pub sets_before_at : (col row c r : ℤ) (old new : List SetValue) → HasSetsBefore plan step count Hits range t col row old → Advances plan step count Hits range t col row old c r new → HasSetsBefore plan step count Hits range t c r new
     sets_before_at col row c r old new (before, filled, sets) adv = (before, filled, adv before filled sets)

@@ -18,13 +18,11 @@ use Rattle.merge_sets.proofs.BoxCells.{counted_slots}
 use Rattle.merge_sets.specs.BoxSlots.{AreNear}
 use Rattle.merge_sets.specs.declared.places.BoxSlots.{BoxSlots}
 use Rattle.merge_sets.proofs.Steps.{near_slots}
-use Rattle.carve.specs.Ranges.{IsRowNear}
 use Rattle.carve.specs.RowSums.{sum_rows}
 use Rattle.carve.proofs.RowCounts.{rows_are_boxes}
 use Rattle.base_sets.proofs.Slots.{count_is}
 use Rattle.merge_sets.specs.Tables.{Table}
 use Rattle.area_laws.specs.Reaching.{IsCellIn}
-use Rattle.area_laws.proofs.Arguments.{row_near}
 use Rattle.area_run.specs.Plans.{course_of}
 use Rattle.area_run.specs.Rows.{AreRunsOf, AreRowsIn, AreAllRowsIn}
 use Rattle.area_run.specs.declared.plan.Plan.{Plan}
@@ -32,26 +30,6 @@ use Rattle.area_run.specs.Stages.{Advances}
 use Rattle.area_run.proofs.Listing.{room_for_row, bound}
 use Rattle.area_run.proofs.Putting.{column_done}
 use Rattle.spot_terms.proofs.Slots.{slots_rise, some_width}
-
-abbrev pub read : ℤ → ℤ
-read z = to_z w64 (of_z w64 z)
-
-pub cast_back : (j : ℕ) → j ≤ 1_000_000_000 → to_z w64 j ≡ pos j
-cast_back j h = to_z_pos w64 (omega (arith, h))
-
-pub number_back : (first : ℤ) (j : ℕ) → nat_abs first ≤ 400_000_000 → j ≤ 1_000_000_000 → read (read first +ℤ to_z w64 j) ≡ first +ℤ pos j
-number_back first j h k =
-    ap (λ (z : ℤ). read (z +ℤ to_z w64 j)) (small_back first (omega (arith, h))) ∙ ap (λ (z : ℤ). read (first +ℤ z)) (cast_back j k) ∙ small_back (first +ℤ pos j) (size first j h k)
-  where
-    size : (first : ℤ) (j : ℕ) → nat_abs first ≤ 400_000_000 → j ≤ 1_000_000_000 → nat_abs (first +ℤ pos j) ≤ 9_000_000_000_000_000_000
-    size first j h k = omega (arith, ints, h, k)
-
-pub number_fits : (first : ℤ) (j : ℕ) → nat_abs first ≤ 400_000_000 → j ≤ 1_000_000_000 → FitsSigned w64 (read first +ℤ to_z w64 j)
-number_fits first j h k =
-    subst (λ (z : ℤ). FitsSigned w64 z) (sym (ap (λ (z : ℤ). z +ℤ to_z w64 j) (small_back first (omega (arith, h))) ∙ ap (λ (z : ℤ). first +ℤ z) (cast_back j k))) (fits_signed_from_abs w64 (first +ℤ pos j) (size first j h k))
-  where
-    size : (first : ℤ) (j : ℕ) → nat_abs first ≤ 400_000_000 → j ≤ 1_000_000_000 → nat_abs (first +ℤ pos j) < 9_223_372_036_854_775_808
-    size first j h k = omega (arith, ints, h, k)
 
 module _ (plan : Plan) (step : ℕ) (count : ℕ) (Hits : ℕ → Pt → Type 0) (range : ℕ → ℤ × ℤ) (b : OuterBox) (exact : rect_of_box b ≡ box_at (course_of plan) step) (reach : IsBox b)
     (near : AreBoxPlaces 21_000_000_000_000 b) (grid : IsGrid plan.grid) where
@@ -72,10 +50,6 @@ module _ (plan : Plan) (step : ℕ) (count : ℕ) (Hits : ℕ → Pt → Type 0)
 
   pub among : (j : ℕ) → j < slots_met plan.grid.g b.ylo b.yhi → Within low (slot plan.grid.g b.yhi) (low +ℤ pos j)
   among j l = counted_slots low (slot plan.grid.g b.yhi) j (slots_rise plan.grid.g b.ylo b.yhi (some_width plan.grid.g grid.g) reach.y) l
-
-  pub row_asked : (far j : ℕ) (row : ℤ) → row ≡ low +ℤ pos j → j < slots_met plan.grid.g b.ylo b.yhi → 35_000_000_000_000 ≤ far → IsRowNear far plan.grid.g row
-  row_asked far j row at l h = subst (λ (z : ℤ). IsRowNear far plan.grid.g z) (sym at)
-      (row_near far plan.grid.g b.ylo b.yhi (low +ℤ pos j) grid.g near.ylo near.yhi (omega (arith, h)) (among j l))
 
   -- what is said of the box is said of the box of the step
   pub over_box : (P : Rect → Type 0) → P (rect_of_box b) → P (box_at (course_of plan) step)

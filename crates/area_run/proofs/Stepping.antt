@@ -72,10 +72,12 @@ pub over_state : {X : Type 0} (P : X → Plan → ℕ → Type 0) (o n : X) (p q
 over_state P o n p q i j e f k h = subst (λ x. P x q j) (sym e) (subst (λ (z : Plan). P o z j) (sym f) (subst (λ (z : ℕ). P o p z) (sym k) h))
 
 -- the two lists change their places; all other rooms are as large as before
-pub rooms_after : (course : Course) (count boxes i cells runs rows free sets next new_cells new_runs new_rows new_free new_sets new_next : ℕ) → AreRooms course count boxes i cells runs rows free sets next
-    → new_cells ≡ cells → new_runs ≡ runs → rows ≤ new_rows → free ≤ new_free → new_sets ≡ next → new_next ≡ sets → AreRooms course count boxes i new_cells new_runs new_rows new_free new_sets new_next
-rooms_after course count boxes i cells runs rows free sets next a b c d e f r p q u v w x = record {
+pub rooms_after : (course : Course) (count boxes i cells heads taken runs rows free sets next new_cells new_heads new_taken new_runs new_rows new_free new_sets new_next : ℕ) → AreRooms course count boxes i cells heads taken runs rows free sets next
+    → new_cells ≡ cells → new_heads ≡ heads → new_taken ≡ taken → new_runs ≡ runs → rows ≤ new_rows → free ≤ new_free → new_sets ≡ next → new_next ≡ sets → AreRooms course count boxes i new_cells new_heads new_taken new_runs new_rows new_free new_sets new_next
+rooms_after course count boxes i cells heads taken runs rows free sets next a m n b c d e f r p y z q u v w x = record {
   cells_fit = let k = r.cells_fit in omega (arith, k, p);
+  heads_fit = let k = r.heads_fit in omega (arith, k, y);
+  taken_fit = let k = r.taken_fit in omega (arith, k, z);
   runs_fit = let k = r.runs_fit in omega (arith, k, q);
   rows_fit = let k = r.rows_fit in omega (arith, k, u);
   free_fit = let k = r.free_fit in omega (arith, k, v);
@@ -84,12 +86,12 @@ rooms_after course count boxes i cells runs rows free sets next a b c d e f r p 
 }
 
 module _ (plan : Plan) (last far : ℕ) (count : ℕ → ℕ) (Hits : ℕ → ℕ → Pt → Type 0) (range : ℕ → ℕ → ℤ × ℤ) where
-  pub can_after : (steps cells runs rows free sets next new_cells new_runs new_rows new_free new_sets new_next : ℕ) → CanRun plan last far count Hits range steps cells runs rows free sets next
-      → new_cells ≡ cells → new_runs ≡ runs → rows ≤ new_rows → free ≤ new_free → new_sets ≡ next → new_next ≡ sets → CanRun plan last far count Hits range steps new_cells new_runs new_rows new_free new_sets new_next
-  can_after steps cells runs rows free sets next a b c d e f h p q u v w x = record {
+  pub can_after : (steps cells heads taken runs rows free sets next new_cells new_heads new_taken new_runs new_rows new_free new_sets new_next : ℕ) → CanRun plan last far count Hits range steps cells heads taken runs rows free sets next
+      → new_cells ≡ cells → new_heads ≡ heads → new_taken ≡ taken → new_runs ≡ runs → rows ≤ new_rows → free ≤ new_free → new_sets ≡ next → new_next ≡ sets → CanRun plan last far count Hits range steps new_cells new_heads new_taken new_runs new_rows new_free new_sets new_next
+  can_after steps cells heads taken runs rows free sets next a m n b c d e f h p y z q u v w x = record {
     plan_is = h.plan_is;
     few = h.few;
     asked = h.asked;
     reach = h.reach;
-    rooms = λ i l. rooms_after (course_of plan) (count i) (row_boxes (course_of plan) count range i) i cells runs rows free sets next a b c d e f (h.rooms i l) p q u v w x;
+    rooms = λ i l. rooms_after (course_of plan) (count i) (row_boxes (course_of plan) count range i) i cells heads taken runs rows free sets next a m n b c d e f (h.rooms i l) p y z q u v w x;
   }

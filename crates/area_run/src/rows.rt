@@ -12,7 +12,7 @@ ghost use Rattle.area_run.specs.Stages.{IsStage};
 use crate::plan::Plan;
 use crate::rooms::Rooms;
 use base_sets::{OuterBox, slots_met};
-use carve::{Occupied, Runs, row_runs};
+use carve::{Occupied, RowSpans, Runs};
 use spot_terms::MOST_STEPS;
 use std::alloc::{AllocError, Global};
 
@@ -23,6 +23,7 @@ pub(crate) struct StepRuns<'o, O: Occupied> {
     pub(crate) plan: Plan,
     pub(crate) step: u32,
     pub(crate) b: OuterBox,
+    pub(crate) taken: RowSpans,
     pub(crate) runs: Runs,
     pub(crate) free: Vec<(i64, i64)>,
     pub(crate) ends: Vec<(usize, usize)>,
@@ -43,6 +44,8 @@ impl<'o, O: Occupied> StepRuns<'o, O> {
         ensures exact { IfOk result (λ r. rect_of_box r.b ≡ box_at (course_of plan.now) 0) }
         ensures reach { IfOk result (λ r. IsBox r.b) }
         ensures near { IfOk result (λ r. AreBoxPlaces 21_000_000_000_000 r.b) }
+        ensures taken { IfOk result (λ r. r.taken.room ≡ rooms.now.boxes) }
+        ensures heads { IfOk result (λ r. r.taken.rows ≡ rooms.now.rows) }
         ensures room { IfOk result (λ r. r.runs.room ≡ rooms.now.runs) }
         ensures capacity { IfOk result (λ r. rooms.now.boxes ≤ vec_capacity r.free) }
         ensures rows { IfOk result (λ r. rooms.now.rows ≤ vec_capacity r.ends) }
@@ -52,6 +55,7 @@ impl<'o, O: Occupied> StepRuns<'o, O> {
             plan: *plan,
             step: 0,
             b: plan.outer_box(0),
+            taken: RowSpans::open(alloc, rooms.rows, rooms.boxes)?,
             runs: Runs::open(alloc, rooms.runs)?,
             free: Vec::with_capacity(alloc, rooms.boxes as usize)?,
             ends: Vec::with_capacity(alloc, rooms.rows as usize)?,
@@ -65,12 +69,16 @@ impl<'o, O: Occupied> StepRuns<'o, O> {
         requires last { step ≤ O.last self.old.o.now }
         requires far { 35_000_000_000_000 ≤ O.far self.old.o.now }
         requires room { slots_met_of self.old.plan.grid.w (box_at (course_of self.old.plan) step).xlo (box_at (course_of self.old.plan) step).xhi + O.count self.old.o.now step ≤ self.old.runs.room }
+        requires taken { row_boxes_in self.old.plan.grid.w self.old.plan.grid.g (box_at (course_of self.old.plan) step) (O.count self.old.o.now step) (O.range self.old.o.now step) ≤ self.old.taken.room }
+        requires heads { slots_met_of self.old.plan.grid.g (box_at (course_of self.old.plan) step).ylo (box_at (course_of self.old.plan) step).yhi ≤ self.old.taken.rows }
         requires boxes { row_boxes_in self.old.plan.grid.w self.old.plan.grid.g (box_at (course_of self.old.plan) step) (O.count self.old.o.now step) (O.range self.old.o.now step) ≤ vec_capacity self.old.free }
         requires rows { slots_met_of self.old.plan.grid.g (box_at (course_of self.old.plan) step).ylo (box_at (course_of self.old.plan) step).yhi ≤ vec_capacity self.old.ends }
         ensures pieces { self.new.o.now ≡ self.old.o.now }
         ensures plan { self.new.plan ≡ self.old.plan }
         ensures step { self.new.step ≡ step }
         ensures stage { IsStage self.old.plan step (O.count self.old.o.now step) (O.hits self.old.o.now step) (O.range self.old.o.now step) self.new.b self.new.free.items self.new.ends.items }
+        ensures taken { self.new.taken.room ≡ self.old.taken.room }
+        ensures heads { self.new.taken.rows ≡ self.old.taken.rows }
         ensures room { self.new.runs.room ≡ self.old.runs.room }
         ensures capacity { vec_capacity self.old.free ≤ vec_capacity self.new.free }
         ensures rows { vec_capacity self.old.ends ≤ vec_capacity self.new.ends }
@@ -82,6 +90,7 @@ impl<'o, O: Occupied> StepRuns<'o, O> {
             step,
             &self.plan,
             &self.b,
+            &mut self.taken,
             &mut self.runs,
             &mut self.free,
             &mut self.ends,
@@ -105,6 +114,7 @@ fn list_rows<O: Occupied>(
     step: u32,
     plan: &Plan,
     b: &OuterBox,
+    taken: &mut RowSpans,
     runs: &mut Runs,
     free: &mut Vec<(i64, i64)>,
     ends: &mut Vec<(usize, usize)>,
@@ -116,19 +126,22 @@ fn list_rows<O: Occupied>(
     requires reach { IsBox b.now }
     requires near { AreBoxPlaces 21_000_000_000_000 b.now }
     requires room { slots_met_of plan.now.grid.w b.now.xlo b.now.xhi + O.count o.now step ≤ runs.old.room }
+    requires taken { row_boxes_in plan.now.grid.w plan.now.grid.g (rect_of_box b.now) (O.count o.now step) (O.range o.now step) ≤ taken.old.room }
+    requires heads { slots_met_of plan.now.grid.g b.now.ylo b.now.yhi ≤ taken.old.rows }
     requires boxes { row_boxes_in plan.now.grid.w plan.now.grid.g (rect_of_box b.now) (O.count o.now step) (O.range o.now step) ≤ vec_capacity free.old }
     requires rows { slots_met_of plan.now.grid.g b.now.ylo b.now.yhi ≤ vec_capacity ends.old }
     ensures listed { AreAllRowsIn (course_of plan.now) step (O.count o.now step) (O.hits o.now step) (O.range o.now step) free.new.items ends.new.items }
+    ensures taken { taken.new.room ≡ taken.old.room }
+    ensures heads { taken.new.rows ≡ taken.old.rows }
     ensures room { runs.new.room ≡ runs.old.room }
     ensures capacity { vec_capacity free.old ≤ vec_capacity free.new }
     ensures rows { vec_capacity ends.old ≤ vec_capacity ends.new }
 {
     free.clear();
     ends.clear();
-    let first = plan.grid.row(b.ylo);
-    let count = slots_met(plan.grid.g, b.ylo, b.yhi);
-    for j in 0..count {
-        row_runs(o, step, first + j as i64, b, &plan.grid, runs);
+    taken.gather(o, step, b, &plan.grid);
+    for j in 0..slots_met(plan.grid.g, b.ylo, b.yhi) {
+        taken.row_runs(j as usize, b, &plan.grid, runs);
         push_row(free, ends, runs.list());
     }
 }

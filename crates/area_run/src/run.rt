@@ -10,7 +10,7 @@ use crate::rooms::Rooms;
 use crate::rows::StepRuns;
 use base_sets::{BaseSet, EgoBounds, EgoStart, Grid};
 use carve::{Occupied, SetList};
-use merge_sets::CellTable;
+use merge_sets::{CellTable, Planes};
 use spot_terms::MOST_STEPS;
 use std::alloc::{AllocError, Global};
 use std::marker::Model;
@@ -30,12 +30,13 @@ pub struct AreaRun<'o, O: Occupied> {
     steps: u32,
     at: StepRuns<'o, O>,
     table: CellTable,
+    planes: Planes,
     sets: SetList,
     next: SetList,
 }
 
 impl<'o, O: Occupied> Model for AreaRun<'o, O> {
-    ghost use Rattle.std.specs.Prelude.{vec_capacity};
+    ghost use Rattle.std.specs.Prelude.{◌≡◌, vec_capacity};
     ghost use Rattle.area_run.specs.Running.{CanRun, Stand, StandsAt};
 
     ghost Value = { Stand O };
@@ -43,8 +44,9 @@ impl<'o, O: Occupied> Model for AreaRun<'o, O> {
     ghost view = { λ r. record { o = r.at.o.now; plan = r.at.plan; steps = r.steps; at = r.at.step; sets = r.sets.sets } };
 
     ghost invariant = { λ r.
-        CanRun r.at.plan (O.last r.at.o.now) (O.far r.at.o.now) (O.count r.at.o.now) (O.hits r.at.o.now) (O.range r.at.o.now) r.steps r.table.most r.at.runs.room (vec_capacity r.at.ends) (vec_capacity r.at.free) r.sets.room r.next.room
-        × StandsAt r.at.plan (O.last r.at.o.now) (O.far r.at.o.now) (O.count r.at.o.now) (O.hits r.at.o.now) (O.range r.at.o.now) r.steps r.at.step r.sets.sets };
+        CanRun r.at.plan (O.last r.at.o.now) (O.far r.at.o.now) (O.count r.at.o.now) (O.hits r.at.o.now) (O.range r.at.o.now) r.steps r.table.most r.at.taken.rows r.at.taken.room r.at.runs.room (vec_capacity r.at.ends) (vec_capacity r.at.free) r.sets.room r.next.room
+        × StandsAt r.at.plan (O.last r.at.o.now) (O.far r.at.o.now) (O.count r.at.o.now) (O.hits r.at.o.now) (O.range r.at.o.now) r.steps r.at.step r.sets.sets
+        × (r.planes.k ≡ r.at.plan.k) × (r.planes.rows ≡ r.at.taken.rows) };
 }
 
 impl<'o, O: Occupied> AreaRun<'o, O> {
@@ -116,12 +118,14 @@ impl<'o, O: Occupied> AreaRun<'o, O> {
         let rooms = Rooms::up_to(plan, o, steps);
         let at = StepRuns::open(alloc, o, plan, &rooms)?;
         let table = CellTable::open(alloc, rooms.cells)?;
+        let planes = Planes::open(alloc, rooms.rows, plan.k)?;
         let sets = first_sets(alloc, o, plan, rooms.boxes)?;
         let next = SetList::open(alloc, rooms.boxes)?;
         Ok(AreaRun {
             steps,
             at,
             table,
+            planes,
             sets,
             next,
         })
@@ -143,7 +147,7 @@ impl<'o, O: Occupied> AreaRun<'o, O> {
         self.table.start(&b, &plan.grid, plan.k);
         fill(&plan, &b, self.sets.list(), &mut self.table);
         self.next.clear();
-        put_all(&self.at, &self.table, &mut self.next);
+        put_all(&self.at, &self.table, &mut self.planes, &mut self.next);
         std::mem::swap(&mut self.sets, &mut self.next);
     }
 

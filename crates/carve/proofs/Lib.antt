@@ -3,8 +3,10 @@ pub mod Founds
 pub mod PieceLaws
 pub mod PieceRuns
 pub mod Gathers
+pub mod Linking
 pub mod CutSteps
 mod Shared
 mod BoxSums
 pub mod RowCounts
 pub mod RowPlaces
+pub mod RowNumbers

@@ -52,14 +52,14 @@ sum_by_alike f h (x ∷ xs) e = let one = e x in let rest = sum_by_alike f h xs 
 
 -- ---- how many numbers a range has
 
-abbrev Counts : ℤ → ℤ → ℕ → Type 0
+abbrev pub Counts : ℤ → ℤ → ℕ → Type 0
 Counts m n c = ((m ≤ℤ (n +ℤ pos 1)) × (pos c ≡ n -ℤ m +ℤ pos 1)) ⊎ (((n +ℤ pos 1) ≤ℤ m) × (c ≡ 0))
 
 counted : (z m n : ℤ) → z ≡ n -ℤ m +ℤ pos 1 → Counts m n (count_between m n)
 counted (pos z) m n e = inl (omega (arith, ints, e), rw (← e) refl)
 counted (negsuc z) m n e = inr (omega (arith, ints, e), rw (← e) refl)
 
-counts : (m n : ℤ) → Counts m n (count_between m n)
+pub counts : (m n : ℤ) → Counts m n (count_between m n)
 counts m n = counted (n -ℤ m +ℤ pos 1) m n refl
 
 -- the numbers from a on: a, and those behind it
@@ -98,15 +98,15 @@ slot_one g r z wide low high =
     even : (q r : ℤ) → q <ℤ (r +ℤ pos 1) → r <ℤ (q +ℤ pos 1) → q ≡ r
     even q r h k = omega (arith, ints, h, k)
 
-low_slot : (g r : ℤ) → pos 0 <ℤ g → slot g (slot_low g r) ≡ r
+pub low_slot : (g r : ℤ) → pos 0 <ℤ g → slot g (slot_low g r) ≡ r
 low_slot g r wide = slot_one g r (slot_low g r) wide (omega (arith, ints)) (omega (arith, ints, wide, spread_left r (pos 1) g))
 
-high_slot : (g r : ℤ) → pos 0 <ℤ g → slot g (slot_high g r) ≡ r
+pub high_slot : (g r : ℤ) → pos 0 <ℤ g → slot g (slot_high g r) ≡ r
 high_slot g r wide = slot_one g r (slot_high g r) wide (omega (arith, ints, wide)) (omega (arith, ints, wide, spread_left r (pos 1) g))
 
 -- ---- rows that meet a range
 
-shared : (g : ℤ) (s t : ℤ × ℤ) → s.0 ≤ℤ s.1 → t.0 ≤ℤ t.1 → slots_shared g s t ≡ count_between (int_max (slot g s.0) (slot g t.0)) (int_min (slot g s.1) (slot g t.1))
+pub shared : (g : ℤ) (s t : ℤ × ℤ) → s.0 ≤ℤ s.1 → t.0 ≤ℤ t.1 → slots_shared g s t ≡ count_between (int_max (slot g s.0) (slot g t.0)) (int_min (slot g s.1) (slot g t.1))
 shared g s t h k = rw (at_most_true s.0 s.1 h, at_most_true t.0 t.1 k) refl
 
 row_shared : (g : ℤ) (s : ℤ × ℤ) (r : ℤ) → pos 0 <ℤ g → s.0 ≤ℤ s.1 → slots_shared g s (slot_low g r, slot_high g r) ≡ count_between (int_max (slot g s.0) r) (int_min (slot g s.1) r)

@@ -67,7 +67,7 @@ same_run A B w col lo hi e f = record {
   right = elim f.right [ inl h ↦ inl h | inr h ↦ inr ((e (hi +ℤ pos 1)).1 h) ];
 }
 
-same_runs : (A B : ℤ → Type 0) (w first last : ℤ) (runs : List (ℤ × ℤ)) → ((x : ℤ) → A x ↔ B x) → AreFreeRuns B w first last runs → AreFreeRuns A w first last runs
+pub same_runs : (A B : ℤ → Type 0) (w first last : ℤ) (runs : List (ℤ × ℤ)) → ((x : ℤ) → A x ↔ B x) → AreFreeRuns B w first last runs → AreFreeRuns A w first last runs
 same_runs A B w first last runs e h = record {
   ordered = h.ordered;
   each = λ run i. let k = h.each run i in record { col = k.col; among = k.among; free_run = same_run A B w k.col run.0 run.1 e k.free_run };
@@ -81,28 +81,38 @@ taken_rows count hits g row low high spans a b exact =
     subst (λ (z : ℤ). (x : ℤ) → ((p : ℕ) × (p < count) × hits p (record { x = x; y = slot_low g row }) × hits p (record { x = x; y = z })) ↔ IsTaken spans x) b
     (subst (λ (z : ℤ). (x : ℤ) → ((p : ℕ) × (p < count) × hits p (record { x = x; y = z }) × hits p (record { x = x; y = high })) ↔ IsTaken spans x) a exact)
 
--- the free runs of a row, in the words of what is removed there
-pub row_exact : (count : ℕ) (hits : ℕ → Pt → Type 0) (g row low high : ℤ) (spans others : List Span) (w v first a last b : ℤ) (runs : List (ℤ × ℤ)) → low ≡ slot_low g row → high ≡ slot_high g row
-    → TakesBetween count hits low high spans → others ≡ spans → v ≡ w → a ≡ first → b ≡ last → AreFreeRuns (IsTaken others) v a b runs → AreFreeRuns (IsRemoved count hits g row) w first last runs
-row_exact count hits g row low high spans others w v first a last b runs p q exact d e f h are =
-    same_runs (IsRemoved count hits g row) (IsTaken spans) w first last runs (taken_rows count hits g row low high spans p q exact)
-    (subst (λ (z : ℤ). AreFreeRuns (IsTaken spans) w first z runs) h
+-- the free runs of equal words
+pub free_read : (spans : List Span) (w v first a last b : ℤ) (runs : List (ℤ × ℤ)) → v ≡ w → a ≡ first → b ≡ last → AreFreeRuns (IsTaken spans) v a b runs → AreFreeRuns (IsTaken spans) w first last runs
+free_read spans w v first a last b runs e f h are =
+    subst (λ (z : ℤ). AreFreeRuns (IsTaken spans) w first z runs) h
     (subst (λ (z : ℤ). AreFreeRuns (IsTaken spans) w z b runs) f
-    (subst (λ (z : ℤ). AreFreeRuns (IsTaken spans) z a b runs) e
-    (subst (λ (s : List Span). AreFreeRuns (IsTaken s) v a b runs) d are))))
+    (subst (λ (z : ℤ). AreFreeRuns (IsTaken spans) z a b runs) e are))
 
-pub row_covers : (count : ℕ) (hits : ℕ → Pt → Type 0) (g row low high : ℤ) (spans others : List Span) (w v first a last b : ℤ) (runs : List (ℤ × ℤ)) → low ≡ slot_low g row → high ≡ slot_high g row
-    → TakesBetween count hits low high spans → others ≡ spans → v ≡ w → a ≡ first → b ≡ last → CoverTheRest (IsTaken others) v a b runs → CoverTheRest (IsRemoved count hits g row) w first last runs
-row_covers count hits g row low high spans others w v first a last b runs p q exact d e f h covers x l m =
-    let c : CoverTheRest (IsTaken spans) w first last runs =
+pub covers_read : (spans : List Span) (w v first a last b : ℤ) (runs : List (ℤ × ℤ)) → v ≡ w → a ≡ first → b ≡ last → CoverTheRest (IsTaken spans) v a b runs → CoverTheRest (IsTaken spans) w first last runs
+covers_read spans w v first a last b runs e f h covers =
     subst (λ (z : ℤ). CoverTheRest (IsTaken spans) w first z runs) h
     (subst (λ (z : ℤ). CoverTheRest (IsTaken spans) w z b runs) f
-    (subst (λ (z : ℤ). CoverTheRest (IsTaken spans) z a b runs) e
-    (subst (λ (s : List Span). CoverTheRest (IsTaken s) v a b runs) d covers))) in
-    elim (c x l m) [
-      | inl t ↦ inl ((taken_rows count hits g row low high spans p q exact x).1 t)
-      | inr run ↦ inr run
-    ]
+    (subst (λ (z : ℤ). CoverTheRest (IsTaken spans) z a b runs) e covers))
+
+-- each place is removed or lies in a run, whatever the words for what is removed
+pub same_cover : (A B : ℤ → Type 0) (w first last : ℤ) (runs : List (ℤ × ℤ)) → ((x : ℤ) → A x ↔ B x) → CoverTheRest B w first last runs → CoverTheRest A w first last runs
+same_cover A B w first last runs e covers x l m = elim (covers x l m) [
+  | inl t ↦ inl ((e x).1 t)
+  | inr run ↦ inr run
+]
+
+-- the free runs of a row, in the words of what is removed there
+pub row_exact : (count : ℕ) (hits : ℕ → Pt → Type 0) (g row low high : ℤ) (spans others : List Span) (w first last : ℤ) (runs : List (ℤ × ℤ)) → low ≡ slot_low g row → high ≡ slot_high g row
+    → TakesBetween count hits low high spans → others ≡ spans → AreFreeRuns (IsTaken others) w first last runs → AreFreeRuns (IsRemoved count hits g row) w first last runs
+row_exact count hits g row low high spans others w first last runs p q exact d are =
+    same_runs (IsRemoved count hits g row) (IsTaken spans) w first last runs (taken_rows count hits g row low high spans p q exact)
+    (subst (λ (s : List Span). AreFreeRuns (IsTaken s) w first last runs) d are)
+
+pub row_covers : (count : ℕ) (hits : ℕ → Pt → Type 0) (g row low high : ℤ) (spans others : List Span) (w first last : ℤ) (runs : List (ℤ × ℤ)) → low ≡ slot_low g row → high ≡ slot_high g row
+    → TakesBetween count hits low high spans → others ≡ spans → CoverTheRest (IsTaken others) w first last runs → CoverTheRest (IsRemoved count hits g row) w first last runs
+row_covers count hits g row low high spans others w first last runs p q exact d covers =
+    same_cover (IsRemoved count hits g row) (IsTaken spans) w first last runs (taken_rows count hits g row low high spans p q exact)
+    (subst (λ (s : List Span). CoverTheRest (IsTaken s) w first last runs) d covers)
 
 -- ---- how many pieces a row meets
 

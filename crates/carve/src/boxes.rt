@@ -27,7 +27,7 @@ pub fn row_boxes<O: Occupied>(o: &O, step: u32, b: &OuterBox, grid: &Grid) -> u6
 }
 
 // How many rows of the box meet a range.
-fn rows_shared(low: i64, high: i64, b: &OuterBox, g: i64) -> u64
+pub(crate) fn rows_shared(low: i64, high: i64, b: &OuterBox, g: i64) -> u64
     requires order { low ≤ℤ high }
     requires reach { IsBox b.now }
     requires height { Within (pos 100_000) (pos 100_000_000) g }
@@ -41,7 +41,7 @@ fn rows_shared(low: i64, high: i64, b: &OuterBox, g: i64) -> u64
 }
 
 // The row of a y.
-fn row_of(g: i64, y: i64) -> i64
+pub(crate) fn row_of(g: i64, y: i64) -> i64
     requires height { Within (pos 100_000) (pos 100_000_000) g }
     ensures value { result ≡ slot g y }
     ensures small { SizeAtMost 100_000_000_000_000 result }
@@ -64,7 +64,7 @@ fn count(first: i64, last: i64) -> u64
 }
 
 // The greater one.
-fn greater(a: i64, b: i64) -> i64
+pub(crate) fn greater(a: i64, b: i64) -> i64
     ensures { result ≡ int_max a b }
 {
     a.max(b)

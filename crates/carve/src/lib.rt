@@ -4,12 +4,14 @@
 ghost use Rattle.carve.specs.RowSums.{RowsAreBoxes};
 
 mod boxes;
+mod linked;
 mod occupied;
 mod rows;
 mod runs;
 mod sets;
 
 pub use boxes::row_boxes;
+pub use linked::RowSpans;
 pub use occupied::Occupied;
 pub use rows::{Runs, row_ends, row_runs};
 pub use sets::{SetList, cut};

@@ -10,7 +10,7 @@ ghost use Rattle.spot_terms.specs.RowBoxes.{slots_shared, runs_bound};
 ghost use Rattle.spot_terms.specs.Whole.{SizeAtMost, Within};
 ghost use Rattle.base_sets.specs.Values.{IsBox, IsGrid, rect_of_box};
 ghost use Rattle.carve.specs.Ranges.{IsRowNear};
-ghost use Rattle.carve.specs.Taking.{AreSpans, TakesBetween};
+ghost use Rattle.carve.specs.Taking.{AreSpans, IsTaken, TakesBetween};
 
 use crate::occupied::Occupied;
 use crate::runs::{Span, put_free};
@@ -21,8 +21,8 @@ use std::marker::Model;
 /// The free runs of a row, in order, and room to find them.
 #[derive(Drop)]
 pub struct Runs {
-    spans: Vec<Span>,
-    free: Vec<(i64, i64)>,
+    pub(crate) spans: Vec<Span>,
+    pub(crate) free: Vec<(i64, i64)>,
     room: u64,
 }
 
@@ -76,14 +76,22 @@ pub fn row_runs<O: Occupied>(o: &O, step: u32, row: i64, b: &OuterBox, grid: &Gr
 {
     let (low, high) = row_ends(row, grid.g);
     gather(o, step, low, high, grid.g, &mut runs.spans);
-    runs.free.clear();
-    put_free(
-        &mut runs.free,
-        &runs.spans,
-        grid.col(b.xlo),
-        grid.col(b.xhi),
-        grid.w,
-    );
+    find_free(&mut runs.free, &runs.spans, b, grid);
+}
+
+// Lists the runs of all columns of the box that the spans leave free, in order, in place of what is there.
+pub(crate) fn find_free(free: &mut Vec<(i64, i64)>, spans: &[Span], b: &OuterBox, grid: &Grid)
+    requires spans { AreSpans spans.now }
+    requires reach { IsBox b.now }
+    requires grid { IsGrid grid.now }
+    requires room { slots_met grid.now.w b.now.xlo b.now.xhi + length spans.now ≤ vec_capacity free.old }
+    ensures exact { AreFreeRuns (IsTaken spans.now) grid.now.w (slot grid.now.w b.now.xlo) (slot grid.now.w b.now.xhi) free.new.items }
+    ensures covers { CoverTheRest (IsTaken spans.now) grid.now.w (slot grid.now.w b.now.xlo) (slot grid.now.w b.now.xhi) free.new.items }
+    ensures few { length free.new.items ≤ slots_met grid.now.w b.now.xlo b.now.xhi + length spans.now }
+    ensures capacity { vec_capacity free.old ≤ vec_capacity free.new }
+{
+    free.clear();
+    put_free(free, spans, grid.col(b.xlo), grid.col(b.xhi), grid.w);
 }
 
 // Lists what the pieces take away from the places between `low` and `high`, in order.
@@ -103,14 +111,14 @@ fn gather<O: Occupied>(o: &O, step: u32, low: i64, high: i64, g: i64, spans: &mu
     spans.clear();
     for piece in 0..o.pieces(step) {
         if let Some((first, last)) = run_across(o, step, piece, low, high) {
-            push_span(spans, first, last);
+            push_span(spans, Span { first, last });
         }
     }
     spans.sort_unstable();
 }
 
 // The x at which both ends lie in the piece. A piece whose range doesn't reach both isn't asked.
-fn run_across<O: Occupied>(o: &O, step: u32, piece: u32, low: i64, high: i64) -> Option<(i64, i64)>
+pub(crate) fn run_across<O: Occupied>(o: &O, step: u32, piece: u32, low: i64, high: i64) -> Option<(i64, i64)>
     requires step { step ≤ O.last o.now }
     requires piece { piece < O.count o.now step }
     requires ordered { low ≤ℤ high }
@@ -120,18 +128,43 @@ fn run_across<O: Occupied>(o: &O, step: u32, piece: u32, low: i64, high: i64) ->
     ensures met { IfSome result (λ _. ((O.range o.now step piece).0 ≤ℤ low) × (high ≤ℤ (O.range o.now step piece).1)) }
 {
     match o.span(step, piece) {
-        Some((bottom, top)) if bottom <= low && high <= top => o.run(step, piece, low, high),
-        _ => None,
+        Some(range) => run_within(o, step, piece, range, low, high),
+        None => None,
+    }
+}
+
+// The same of a piece whose range is known.
+pub(crate) fn run_within<O: Occupied>(
+    o: &O,
+    step: u32,
+    piece: u32,
+    range: (i64, i64),
+    low: i64,
+    high: i64,
+) -> Option<(i64, i64)>
+    requires step { step ≤ O.last o.now }
+    requires piece { piece < O.count o.now step }
+    requires range { range ≡ O.range o.now step piece }
+    requires ordered { low ≤ℤ high }
+    requires low_far { SizeAtMost (O.far o.now) low }
+    requires high_far { SizeAtMost (O.far o.now) high }
+    ensures run { IsRun (λ x. O.hits o.now step piece (at x low) × O.hits o.now step piece (at x high)) result }
+    ensures met { IfSome result (λ _. ((O.range o.now step piece).0 ≤ℤ low) × (high ≤ℤ (O.range o.now step piece).1)) }
+{
+    if range.0 <= low && high <= range.1 {
+        o.run(step, piece, low, high)
+    } else {
+        None
     }
 }
 
 // Adds a span, for which there is room.
-fn push_span(spans: &mut Vec<Span>, first: i64, last: i64)
+pub(crate) fn push_span(spans: &mut Vec<Span>, span: Span)
     requires room { length spans.old.items < vec_capacity spans.old }
-    ensures items { spans.new.items ≡ spans.old.items ++ record { first = first; last = last } ∷ [] }
+    ensures items { spans.new.items ≡ spans.old.items ++ span ∷ [] }
     ensures capacity { vec_capacity spans.old ≤ vec_capacity spans.new }
 {
-    if spans.push(Span { first, last }).is_err() {
+    if spans.push(span).is_err() {
         unreachable!();
     }
 }

@@ -11,9 +11,10 @@ use base_sets::{BaseSet, Grid, OuterBox};
 use convex_poly::{Poly, Pt, hull};
 use std::test::Fail;
 
-/// A rectangle at each step up to `last`.
+/// So many equal rectangles at each step up to `last`.
 struct Rectangle {
     last: u32,
+    count: u32,
     x: (i64, i64),
     y: (i64, i64),
     ghost wide: { x.0 ≤ℤ x.1 },
@@ -21,7 +22,7 @@ struct Rectangle {
 }
 
 impl Occupied for Rectangle {
-    ghost count = { λ _ _. 1 };
+    ghost count = { λ r _. r.count };
 
     ghost hits = { λ r _ _ p. Within r.x.0 r.x.1 p.x × Within r.y.0 r.y.1 p.y };
 
@@ -32,7 +33,7 @@ impl Occupied for Rectangle {
     ghost far = { λ _. 40_000_000_000_000 };
 
     fn pieces(&self, _step: u32) -> u32 {
-        1
+        self.count
     }
 
     fn span(&self, _step: u32, _piece: u32) -> Option<(i64, i64)> {
@@ -54,6 +55,7 @@ impl Occupied for Rectangle {
 
 const CAR: Rectangle = Rectangle {
     last: 3,
+    count: 1,
     x: (-250_000, 1_200_000),
     y: (-500_000, 499_999),
 };
@@ -100,6 +102,89 @@ fn rows_beside_and_behind(rt: HostRuntime) -> Result<(), Fail> {
     assert_eq!(rt; runs.list(), &left[..]);
     row_runs(&CAR, 2, 0, &BOX, &GRID, &mut runs);
     assert_eq!(rt; runs.list(), &left[..]);
+    Ok(())
+}
+
+/// Four rows, from -2 to 1, in the columns from -2 to 2.
+const FREE: [(i64, i64); 5] = [
+    (-2_000_000, -1_000_001),
+    (-1_000_000, -1),
+    (0, 999_999),
+    (1_000_000, 1_999_999),
+    (2_000_000, 2_999_999),
+];
+
+/// What is left of a row at whose ends the car is.
+const BESIDE: [(i64, i64); 4] = [
+    (-2_000_000, -1_000_001),
+    (-1_000_000, -250_001),
+    (1_200_001, 1_999_999),
+    (2_000_000, 2_999_999),
+];
+
+#[test]
+fn rows_of_a_box(rt: HostRuntime) -> Result<(), Fail> {
+    let mut runs = Runs::open(rt.alloc(), 6)?;
+    let mut spans = RowSpans::open(rt.alloc(), 4, 22)?;
+    spans.gather(&CAR, 2, &BOX, &GRID);
+    spans.row_runs(0, &BOX, &GRID, &mut runs);
+    assert_eq!(rt; runs.list(), FREE.as_slice());
+    spans.row_runs(1, &BOX, &GRID, &mut runs);
+    assert_eq!(rt; runs.list(), BESIDE.as_slice());
+    spans.row_runs(2, &BOX, &GRID, &mut runs);
+    assert_eq!(rt; runs.list(), BESIDE.as_slice());
+    spans.row_runs(3, &BOX, &GRID, &mut runs);
+    assert_eq!(rt; runs.list(), FREE.as_slice());
+    Ok(())
+}
+
+/// Higher than the box.
+const BRIDGE: Rectangle = Rectangle {
+    last: 3,
+    count: 1,
+    x: (-250_000, 1_200_000),
+    y: (3_000_000, 4_000_000),
+};
+
+/// 200 cars in the row 0, which they cross, and in parts of the rows beside it.
+const CROWD: Rectangle = Rectangle {
+    last: 3,
+    count: 200,
+    x: (-250_000, 1_200_000),
+    y: (-200_000, 800_000),
+};
+
+/// From below the box to above it.
+const WALL: Rectangle = Rectangle {
+    last: 3,
+    count: 1,
+    x: (-250_000, 1_200_000),
+    y: (-9_000_000, 9_000_000),
+};
+
+#[test]
+fn pieces_beside_and_across_a_box(rt: HostRuntime) -> Result<(), Fail> {
+    let mut runs = Runs::open(rt.alloc(), 205)?;
+    let mut spans = RowSpans::open(rt.alloc(), 4, 620)?;
+    spans.gather(&WALL, 2, &BOX, &GRID);
+    for j in 0..4 {
+        spans.row_runs(j, &BOX, &GRID, &mut runs);
+        assert_eq!(rt; runs.list(), BESIDE.as_slice());
+    }
+    spans.gather(&CROWD, 2, &BOX, &GRID);
+    for j in 0..2 {
+        spans.row_runs(j, &BOX, &GRID, &mut runs);
+        assert_eq!(rt; runs.list(), FREE.as_slice());
+    }
+    spans.row_runs(2, &BOX, &GRID, &mut runs);
+    assert_eq!(rt; runs.list(), BESIDE.as_slice());
+    spans.row_runs(3, &BOX, &GRID, &mut runs);
+    assert_eq!(rt; runs.list(), FREE.as_slice());
+    spans.gather(&BRIDGE, 2, &BOX, &GRID);
+    for j in 0..4 {
+        spans.row_runs(j, &BOX, &GRID, &mut runs);
+        assert_eq!(rt; runs.list(), FREE.as_slice());
+    }
     Ok(())
 }
 

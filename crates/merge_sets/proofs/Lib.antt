@@ -13,6 +13,7 @@ pub mod Steps
 pub mod Additions
 pub mod KnownRows
 pub mod Merged
+pub mod PlaneLists
 pub mod Collections
 pub mod Openings
 pub mod Clearings

@@ -6,3 +6,4 @@ pub mod Slots
 pub mod Merging
 pub mod Adding
 pub mod Opening
+pub mod Planes

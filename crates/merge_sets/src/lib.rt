@@ -7,10 +7,12 @@ mod adding;
 mod cells;
 mod columns;
 mod places;
+mod planes;
 mod slots;
 mod table;
 
 pub use adding::slots_of;
+pub use planes::Planes;
 pub use slots::slot_numbers;
 pub use table::CellTable;
 

@@ -51,7 +51,7 @@ returns-in-Some-clause-advances g c =
     let fits_row : FitsSigned w64 c.args.row = c.ranges.row in
     let fits_w : FitsSigned w64 c.args.at.now.plan.grid.w = fits_wide _ c.requires.stage.plan_is.grid.w in
     let column : IsColumnOf c.args.at.now.plan.grid.w c.args.col c.args.runs.now c.column_runs.result.now = simp to_z-of_z at c.column_runs.ensures in
-    let merged : IsMergedIn c.args.table.now c.args.col c.args.row (Some (value_of c.in-Some.b)) = merged_back c.args.table.now _ _ c.args.col c.args.row (Some (value_of c.in-Some.b)) (to_z-of_z fits_col) (to_z-of_z fits_row) c.in-Some.ensures in
+    let merged : IsMergedIn c.args.table.now c.args.col c.args.row (Some (value_of c.in-Some.b)) = merged_back c.args.table.now _ _ c.args.col c.args.row (Some (value_of c.in-Some.b)) (to_z-of_z fits_col) (to_z-of_z fits_row) c.in-Some.ensures.merged in
     cell_put c.args.at.now.plan c.args.at.now.step (g.O.Occupied.count c.args.at.now.o.now c.args.at.now.step) (g.O.Occupied.hits c.args.at.now.o.now c.args.at.now.step) (g.O.Occupied.range c.args.at.now.o.now c.args.at.now.step) c.args.table.now c.requires.stage.plan_is.grid c.args.col c.args.row (value_of c.in-Some.b) c.column_runs.result.now c.args.out.now.sets c.cut.new.out.sets merged
     (cell_runs c.args.at.now.plan c.args.at.now.step (g.O.Occupied.count c.args.at.now.o.now c.args.at.now.step) (g.O.Occupied.hits c.args.at.now.o.now c.args.at.now.step) (g.O.Occupied.range c.args.at.now.o.now c.args.at.now.step) c.args.col c.args.row c.args.runs.now c.column_runs.result.now c.requires.stage.plan_is.grid c.requires.cell c.requires.runs column) c.cut.ensures.sets
 
@@ -59,5 +59,5 @@ pub returns-in_default-clause-advances : goal.returns-in_default-clause-advances
 returns-in_default-clause-advances g c =
     let fits_col : FitsSigned w64 c.args.col = c.ranges.col in
     let fits_row : FitsSigned w64 c.args.row = c.ranges.row in
-    let merged : IsMergedIn c.args.table.now c.args.col c.args.row None = merged_back c.args.table.now _ _ c.args.col c.args.row None (to_z-of_z fits_col) (to_z-of_z fits_row) c.in_default.ensures in
+    let merged : IsMergedIn c.args.table.now c.args.col c.args.row None = merged_back c.args.table.now _ _ c.args.col c.args.row None (to_z-of_z fits_col) (to_z-of_z fits_row) c.in_default.ensures.merged in
     nothing_put c.args.at.now.plan c.args.at.now.step (g.O.Occupied.count c.args.at.now.o.now c.args.at.now.step) (g.O.Occupied.hits c.args.at.now.o.now c.args.at.now.step) (g.O.Occupied.range c.args.at.now.o.now c.args.at.now.step) c.args.table.now c.requires.stage.plan_is.grid c.args.col c.args.row c.args.out.now.sets c.args.out.now.sets merged refl

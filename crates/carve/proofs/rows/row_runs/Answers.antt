@@ -13,6 +13,7 @@ use Rattle.carve.proofs.rows.row_runs.Goals as goal
 in_order : (g row low high : ℤ) → Within (pos 100_000) (pos 100_000_000) g → low ≡ slot_low g row → high ≡ slot_high g row → low ≤ℤ high
 in_order g row low high w a b = let k = w.low in omega (arith, ints)
 
+
 pub row_ends-low-requires-clause-low : goal.row_ends-low-requires-clause-low
 row_ends-low-requires-clause-low g c =
     let fits_row : FitsSigned w64 c.args.row = c.ranges.row in
@@ -88,201 +89,54 @@ gather-requires-clause-room g c =
     let room : c.runs.inside.room ≡ c.args.runs.now.room = ap (λ r. r.room) c.runs.view_is in
     omega (arith, c.requires.room, c.runs.invariant.0, room)
 
-pub col-requires-clause-grid : goal.col-requires-clause-grid
-col-requires-clause-grid g c =
-    c.requires.grid
-
-pub col-requires-clause-place : goal.col-requires-clause-place
-col-requires-clause-place g c =
-    let fits_row : FitsSigned w64 c.args.row = c.ranges.row in
-    let fits_g : FitsSigned w64 c.args.grid.now.g = fits_wide _ c.requires.grid.g in
-    let fits_w : FitsSigned w64 c.args.grid.now.w = fits_wide _ c.requires.grid.w in
-    let fits_xlo : FitsSigned w64 c.args.b.now.xlo = fits_place _ c.requires.reach.xlo in
-    let fits_xhi : FitsSigned w64 c.args.b.now.xhi = fits_place _ c.requires.reach.xhi in
-    simp to_z-of_z c.requires.reach.xlo
-
-pub col-requires-2-clause-grid : goal.col-requires-2-clause-grid
-col-requires-2-clause-grid g c =
-    c.requires.grid
-
-pub col-requires-2-clause-place : goal.col-requires-2-clause-place
-col-requires-2-clause-place g c =
-    let fits_row : FitsSigned w64 c.args.row = c.ranges.row in
-    let fits_g : FitsSigned w64 c.args.grid.now.g = fits_wide _ c.requires.grid.g in
-    let fits_w : FitsSigned w64 c.args.grid.now.w = fits_wide _ c.requires.grid.w in
-    let fits_xlo : FitsSigned w64 c.args.b.now.xlo = fits_place _ c.requires.reach.xlo in
-    let fits_xhi : FitsSigned w64 c.args.b.now.xhi = fits_place _ c.requires.reach.xhi in
-    simp to_z-of_z c.requires.reach.xhi
-
-pub put_free-requires-clause-spans : goal.put_free-requires-clause-spans
-put_free-requires-clause-spans g c =
+pub find_free-requires-clause-spans : goal.find_free-requires-clause-spans
+find_free-requires-clause-spans g c =
     rw c.deref.ensures.value c.gather.ensures.spans
 
-pub put_free-requires-clause-wide : goal.put_free-requires-clause-wide
-put_free-requires-clause-wide g c =
-    let fits_row : FitsSigned w64 c.args.row = c.ranges.row in
-    let fits_g : FitsSigned w64 c.args.grid.now.g = fits_wide _ c.requires.grid.g in
-    let fits_w : FitsSigned w64 c.args.grid.now.w = fits_wide _ c.requires.grid.w in
-    let fits_xlo : FitsSigned w64 c.args.b.now.xlo = fits_place _ c.requires.reach.xlo in
-    let fits_xhi : FitsSigned w64 c.args.b.now.xhi = fits_place _ c.requires.reach.xhi in
-    simp to_z-of_z c.requires.grid.w
-
-pub put_free-requires-clause-first_near : goal.put_free-requires-clause-first_near
-put_free-requires-clause-first_near g c =
-    let fits_row : FitsSigned w64 c.args.row = c.ranges.row in
-    let fits_g : FitsSigned w64 c.args.grid.now.g = fits_wide _ c.requires.grid.g in
-    let fits_w : FitsSigned w64 c.args.grid.now.w = fits_wide _ c.requires.grid.w in
-    let fits_xlo : FitsSigned w64 c.args.b.now.xlo = fits_place _ c.requires.reach.xlo in
-    let fits_xhi : FitsSigned w64 c.args.b.now.xhi = fits_place _ c.requires.reach.xhi in
-    let fits_first : FitsSigned w64 c.col.result = record { sfits = c.col.type_inv } in
-    let first : c.col.result ≡ slot c.args.grid.now.w c.args.b.now.xlo = simp to_z-of_z at c.col.ensures in
-    let fits_last : FitsSigned w64 c.col-2.result = record { sfits = c.col-2.type_inv } in
-    let last : c.col-2.result ≡ slot c.args.grid.now.w c.args.b.now.xhi = simp to_z-of_z at c.col-2.ensures in
-    simp to_z-of_z (rw first (low_near c.args.grid.now.w c.args.b.now.xlo c.requires.grid.w c.requires.reach.xlo))
-
-pub put_free-requires-clause-end_near : goal.put_free-requires-clause-end_near
-put_free-requires-clause-end_near g c =
-    let fits_row : FitsSigned w64 c.args.row = c.ranges.row in
-    let fits_g : FitsSigned w64 c.args.grid.now.g = fits_wide _ c.requires.grid.g in
-    let fits_w : FitsSigned w64 c.args.grid.now.w = fits_wide _ c.requires.grid.w in
-    let fits_xlo : FitsSigned w64 c.args.b.now.xlo = fits_place _ c.requires.reach.xlo in
-    let fits_xhi : FitsSigned w64 c.args.b.now.xhi = fits_place _ c.requires.reach.xhi in
-    let fits_first : FitsSigned w64 c.col.result = record { sfits = c.col.type_inv } in
-    let first : c.col.result ≡ slot c.args.grid.now.w c.args.b.now.xlo = simp to_z-of_z at c.col.ensures in
-    let fits_last : FitsSigned w64 c.col-2.result = record { sfits = c.col-2.type_inv } in
-    let last : c.col-2.result ≡ slot c.args.grid.now.w c.args.b.now.xhi = simp to_z-of_z at c.col-2.ensures in
-    simp to_z-of_z (rw last (next_near c.args.grid.now.w c.args.b.now.xhi c.requires.grid.w c.requires.reach.xhi))
-
-pub put_free-requires-clause-last : goal.put_free-requires-clause-last
-put_free-requires-clause-last g c =
-    let fits_row : FitsSigned w64 c.args.row = c.ranges.row in
-    let fits_g : FitsSigned w64 c.args.grid.now.g = fits_wide _ c.requires.grid.g in
-    let fits_w : FitsSigned w64 c.args.grid.now.w = fits_wide _ c.requires.grid.w in
-    let fits_xlo : FitsSigned w64 c.args.b.now.xlo = fits_place _ c.requires.reach.xlo in
-    let fits_xhi : FitsSigned w64 c.args.b.now.xhi = fits_place _ c.requires.reach.xhi in
-    let fits_first : FitsSigned w64 c.col.result = record { sfits = c.col.type_inv } in
-    let first : c.col.result ≡ slot c.args.grid.now.w c.args.b.now.xlo = simp to_z-of_z at c.col.ensures in
-    let fits_last : FitsSigned w64 c.col-2.result = record { sfits = c.col-2.type_inv } in
-    let last : c.col-2.result ≡ slot c.args.grid.now.w c.args.b.now.xhi = simp to_z-of_z at c.col-2.ensures in
-    let slots = slots_are c.args.grid.now.w c.args.b.now.xlo c.args.b.now.xhi c.requires.grid.w c.requires.reach.x c.requires.reach.xlo c.requires.reach.xhi in
-    simp to_z-of_z (rw last (omega (arith, slots.high)))
-
-pub put_free-requires-clause-ordered : goal.put_free-requires-clause-ordered
-put_free-requires-clause-ordered g c =
-    let fits_row : FitsSigned w64 c.args.row = c.ranges.row in
-    let fits_g : FitsSigned w64 c.args.grid.now.g = fits_wide _ c.requires.grid.g in
-    let fits_w : FitsSigned w64 c.args.grid.now.w = fits_wide _ c.requires.grid.w in
-    let fits_xlo : FitsSigned w64 c.args.b.now.xlo = fits_place _ c.requires.reach.xlo in
-    let fits_xhi : FitsSigned w64 c.args.b.now.xhi = fits_place _ c.requires.reach.xhi in
-    let fits_first : FitsSigned w64 c.col.result = record { sfits = c.col.type_inv } in
-    let first : c.col.result ≡ slot c.args.grid.now.w c.args.b.now.xlo = simp to_z-of_z at c.col.ensures in
-    let fits_last : FitsSigned w64 c.col-2.result = record { sfits = c.col-2.type_inv } in
-    let last : c.col-2.result ≡ slot c.args.grid.now.w c.args.b.now.xhi = simp to_z-of_z at c.col-2.ensures in
-    let slots = slots_are c.args.grid.now.w c.args.b.now.xlo c.args.b.now.xhi c.requires.grid.w c.requires.reach.x c.requires.reach.xlo c.requires.reach.xhi in
-    simp to_z-of_z (rw (first, last) slots.order)
-
-pub put_free-requires-clause-empty : goal.put_free-requires-clause-empty
-put_free-requires-clause-empty g c =
-    c.clear.ensures.items
-
-pub put_free-requires-clause-room : goal.put_free-requires-clause-room
-put_free-requires-clause-room g c =
-    let fits_row : FitsSigned w64 c.args.row = c.ranges.row in
-    let fits_g : FitsSigned w64 c.args.grid.now.g = fits_wide _ c.requires.grid.g in
-    let fits_w : FitsSigned w64 c.args.grid.now.w = fits_wide _ c.requires.grid.w in
-    let fits_xlo : FitsSigned w64 c.args.b.now.xlo = fits_place _ c.requires.reach.xlo in
-    let fits_xhi : FitsSigned w64 c.args.b.now.xhi = fits_place _ c.requires.reach.xhi in
-    let fits_first : FitsSigned w64 c.col.result = record { sfits = c.col.type_inv } in
-    let first : c.col.result ≡ slot c.args.grid.now.w c.args.b.now.xlo = simp to_z-of_z at c.col.ensures in
-    let fits_last : FitsSigned w64 c.col-2.result = record { sfits = c.col-2.type_inv } in
-    let last : c.col-2.result ≡ slot c.args.grid.now.w c.args.b.now.xhi = simp to_z-of_z at c.col-2.ensures in
-    let same_w : to_z w64 (of_z w64 c.args.grid.now.w) ≡ c.args.grid.now.w = to_z-of_z fits_w in
-    let same_g : to_z w64 (of_z w64 c.args.grid.now.g) ≡ c.args.grid.now.g = to_z-of_z fits_g in
-    let same_first : to_z w64 (of_z w64 c.col.result) ≡ slot c.args.grid.now.w c.args.b.now.xlo = to_z-of_z fits_first ∙ first in
-    let same_last : to_z w64 (of_z w64 c.col-2.result) ≡ slot c.args.grid.now.w c.args.b.now.xhi = to_z-of_z fits_last ∙ last in
-    λ columns e.
-    let count : pos columns ≡ slot c.args.grid.now.w c.args.b.now.xhi -ℤ slot c.args.grid.now.w c.args.b.now.xlo +ℤ pos 1 =
-    subst (λ (z : ℤ). pos columns ≡ slot c.args.grid.now.w c.args.b.now.xhi -ℤ z +ℤ pos 1) same_first (subst (λ (z : ℤ). pos columns ≡ z -ℤ to_z w64 (of_z w64 c.col.result) +ℤ pos 1) same_last e) in
-    let met : columns ≡ slots_met c.args.grid.now.w c.args.b.now.xlo c.args.b.now.xhi = columns_are (slot c.args.grid.now.w c.args.b.now.xlo) (slot c.args.grid.now.w c.args.b.now.xhi) columns count in
+pub find_free-requires-clause-room : goal.find_free-requires-clause-room
+find_free-requires-clause-room g c =
     let room : c.runs.inside.room ≡ c.args.runs.now.room = ap (λ r. r.room) c.runs.view_is in
-    omega (arith, met, room, c.requires.room, c.runs.invariant.1, c.gather.ensures.few, ap length c.deref.ensures.value, c.clear.ensures.capacity)
+    omega (arith, room, c.requires.room, c.runs.invariant.1, c.gather.ensures.few, ap length c.deref.ensures.value)
 
 pub invariant_of-runs : goal.invariant_of-runs
 invariant_of-runs g c =
-    (omega (arith, c.runs.invariant.0, c.gather.ensures.capacity), omega (arith, c.runs.invariant.1, c.clear.ensures.capacity, c.put_free.ensures.capacity))
+    (omega (arith, c.runs.invariant.0, c.gather.ensures.capacity), omega (arith, c.runs.invariant.1, c.find_free.ensures.capacity))
 
 pub returns-clause-exact : goal.returns-clause-exact
 returns-clause-exact g c =
     let fits_row : FitsSigned w64 c.args.row = c.ranges.row in
     let fits_g : FitsSigned w64 c.args.grid.now.g = fits_wide _ c.requires.grid.g in
-    let fits_w : FitsSigned w64 c.args.grid.now.w = fits_wide _ c.requires.grid.w in
-    let fits_xlo : FitsSigned w64 c.args.b.now.xlo = fits_place _ c.requires.reach.xlo in
-    let fits_xhi : FitsSigned w64 c.args.b.now.xhi = fits_place _ c.requires.reach.xhi in
     let read_low : to_z w64 (of_z w64 c.row_ends-low.result.0) ≡ c.row_ends-low.result.0 = search rules in
     let read_high : to_z w64 (of_z w64 c.row_ends-low.result.1) ≡ c.row_ends-low.result.1 = search rules in
     let low : c.row_ends-low.result.0 ≡ slot_low c.args.grid.now.g c.args.row = simp to_z-of_z at c.row_ends-low.ensures.low in
     let high : c.row_ends-low.result.1 ≡ slot_high c.args.grid.now.g c.args.row = simp to_z-of_z at c.row_ends-low.ensures.high in
-    let fits_first : FitsSigned w64 c.col.result = record { sfits = c.col.type_inv } in
-    let first : c.col.result ≡ slot c.args.grid.now.w c.args.b.now.xlo = simp to_z-of_z at c.col.ensures in
-    let fits_last : FitsSigned w64 c.col-2.result = record { sfits = c.col-2.type_inv } in
-    let last : c.col-2.result ≡ slot c.args.grid.now.w c.args.b.now.xhi = simp to_z-of_z at c.col-2.ensures in
-    let same_w : to_z w64 (of_z w64 c.args.grid.now.w) ≡ c.args.grid.now.w = to_z-of_z fits_w in
-    let same_g : to_z w64 (of_z w64 c.args.grid.now.g) ≡ c.args.grid.now.g = to_z-of_z fits_g in
-    let same_first : to_z w64 (of_z w64 c.col.result) ≡ slot c.args.grid.now.w c.args.b.now.xlo = to_z-of_z fits_first ∙ first in
-    let same_last : to_z w64 (of_z w64 c.col-2.result) ≡ slot c.args.grid.now.w c.args.b.now.xhi = to_z-of_z fits_last ∙ last in
     let exact : TakesBetween (g.O.Occupied.count c.args.o.now c.args.step) (g.O.Occupied.hits c.args.o.now c.args.step) (to_z w64 (of_z w64 c.row_ends-low.result.0)) (to_z w64 (of_z w64 c.row_ends-low.result.1)) c.gather.new.spans.items = c.gather.ensures.exact in
-    row_exact (g.O.Occupied.count c.args.o.now c.args.step) (g.O.Occupied.hits c.args.o.now c.args.step) c.args.grid.now.g c.args.row _ _ c.gather.new.spans.items c.deref.result.now c.args.grid.now.w _ _ _ _ _ c.put_free.new.free.items
-    (read_low ∙ low) (read_high ∙ high) exact c.deref.ensures.value same_w same_first same_last c.put_free.ensures.runs
+    row_exact (g.O.Occupied.count c.args.o.now c.args.step) (g.O.Occupied.hits c.args.o.now c.args.step) c.args.grid.now.g c.args.row _ _ c.gather.new.spans.items c.deref.result.now c.args.grid.now.w (slot c.args.grid.now.w c.args.b.now.xlo) (slot c.args.grid.now.w c.args.b.now.xhi) c.find_free.new.free.items
+    (read_low ∙ low) (read_high ∙ high) exact c.deref.ensures.value c.find_free.ensures.exact
 
 pub returns-clause-covers : goal.returns-clause-covers
 returns-clause-covers g c =
     let fits_row : FitsSigned w64 c.args.row = c.ranges.row in
     let fits_g : FitsSigned w64 c.args.grid.now.g = fits_wide _ c.requires.grid.g in
-    let fits_w : FitsSigned w64 c.args.grid.now.w = fits_wide _ c.requires.grid.w in
-    let fits_xlo : FitsSigned w64 c.args.b.now.xlo = fits_place _ c.requires.reach.xlo in
-    let fits_xhi : FitsSigned w64 c.args.b.now.xhi = fits_place _ c.requires.reach.xhi in
     let read_low : to_z w64 (of_z w64 c.row_ends-low.result.0) ≡ c.row_ends-low.result.0 = search rules in
     let read_high : to_z w64 (of_z w64 c.row_ends-low.result.1) ≡ c.row_ends-low.result.1 = search rules in
     let low : c.row_ends-low.result.0 ≡ slot_low c.args.grid.now.g c.args.row = simp to_z-of_z at c.row_ends-low.ensures.low in
     let high : c.row_ends-low.result.1 ≡ slot_high c.args.grid.now.g c.args.row = simp to_z-of_z at c.row_ends-low.ensures.high in
-    let fits_first : FitsSigned w64 c.col.result = record { sfits = c.col.type_inv } in
-    let first : c.col.result ≡ slot c.args.grid.now.w c.args.b.now.xlo = simp to_z-of_z at c.col.ensures in
-    let fits_last : FitsSigned w64 c.col-2.result = record { sfits = c.col-2.type_inv } in
-    let last : c.col-2.result ≡ slot c.args.grid.now.w c.args.b.now.xhi = simp to_z-of_z at c.col-2.ensures in
-    let same_w : to_z w64 (of_z w64 c.args.grid.now.w) ≡ c.args.grid.now.w = to_z-of_z fits_w in
-    let same_g : to_z w64 (of_z w64 c.args.grid.now.g) ≡ c.args.grid.now.g = to_z-of_z fits_g in
-    let same_first : to_z w64 (of_z w64 c.col.result) ≡ slot c.args.grid.now.w c.args.b.now.xlo = to_z-of_z fits_first ∙ first in
-    let same_last : to_z w64 (of_z w64 c.col-2.result) ≡ slot c.args.grid.now.w c.args.b.now.xhi = to_z-of_z fits_last ∙ last in
     let exact : TakesBetween (g.O.Occupied.count c.args.o.now c.args.step) (g.O.Occupied.hits c.args.o.now c.args.step) (to_z w64 (of_z w64 c.row_ends-low.result.0)) (to_z w64 (of_z w64 c.row_ends-low.result.1)) c.gather.new.spans.items = c.gather.ensures.exact in
-    row_covers (g.O.Occupied.count c.args.o.now c.args.step) (g.O.Occupied.hits c.args.o.now c.args.step) c.args.grid.now.g c.args.row _ _ c.gather.new.spans.items c.deref.result.now c.args.grid.now.w _ _ _ _ _ c.put_free.new.free.items
-    (read_low ∙ low) (read_high ∙ high) exact c.deref.ensures.value same_w same_first same_last c.put_free.ensures.covers
+    row_covers (g.O.Occupied.count c.args.o.now c.args.step) (g.O.Occupied.hits c.args.o.now c.args.step) c.args.grid.now.g c.args.row _ _ c.gather.new.spans.items c.deref.result.now c.args.grid.now.w (slot c.args.grid.now.w c.args.b.now.xlo) (slot c.args.grid.now.w c.args.b.now.xhi) c.find_free.new.free.items
+    (read_low ∙ low) (read_high ∙ high) exact c.deref.ensures.value c.find_free.ensures.covers
 
 pub returns-clause-few : goal.returns-clause-few
 returns-clause-few g c =
     let fits_row : FitsSigned w64 c.args.row = c.ranges.row in
     let fits_g : FitsSigned w64 c.args.grid.now.g = fits_wide _ c.requires.grid.g in
-    let fits_w : FitsSigned w64 c.args.grid.now.w = fits_wide _ c.requires.grid.w in
-    let fits_xlo : FitsSigned w64 c.args.b.now.xlo = fits_place _ c.requires.reach.xlo in
-    let fits_xhi : FitsSigned w64 c.args.b.now.xhi = fits_place _ c.requires.reach.xhi in
     let read_low : to_z w64 (of_z w64 c.row_ends-low.result.0) ≡ c.row_ends-low.result.0 = search rules in
     let read_high : to_z w64 (of_z w64 c.row_ends-low.result.1) ≡ c.row_ends-low.result.1 = search rules in
     let low : c.row_ends-low.result.0 ≡ slot_low c.args.grid.now.g c.args.row = simp to_z-of_z at c.row_ends-low.ensures.low in
     let high : c.row_ends-low.result.1 ≡ slot_high c.args.grid.now.g c.args.row = simp to_z-of_z at c.row_ends-low.ensures.high in
-    let fits_first : FitsSigned w64 c.col.result = record { sfits = c.col.type_inv } in
-    let first : c.col.result ≡ slot c.args.grid.now.w c.args.b.now.xlo = simp to_z-of_z at c.col.ensures in
-    let fits_last : FitsSigned w64 c.col-2.result = record { sfits = c.col-2.type_inv } in
-    let last : c.col-2.result ≡ slot c.args.grid.now.w c.args.b.now.xhi = simp to_z-of_z at c.col-2.ensures in
-    let same_w : to_z w64 (of_z w64 c.args.grid.now.w) ≡ c.args.grid.now.w = to_z-of_z fits_w in
     let same_g : to_z w64 (of_z w64 c.args.grid.now.g) ≡ c.args.grid.now.g = to_z-of_z fits_g in
-    let same_first : to_z w64 (of_z w64 c.col.result) ≡ slot c.args.grid.now.w c.args.b.now.xlo = to_z-of_z fits_first ∙ first in
-    let same_last : to_z w64 (of_z w64 c.col-2.result) ≡ slot c.args.grid.now.w c.args.b.now.xhi = to_z-of_z fits_last ∙ last in
-    let slots = slots_are c.args.grid.now.w c.args.b.now.xlo c.args.b.now.xhi c.requires.grid.w c.requires.reach.x c.requires.reach.xlo c.requires.reach.xhi in
-    let columns : ℕ = slots_met c.args.grid.now.w c.args.b.now.xlo c.args.b.now.xhi in
-    let count : pos columns ≡ to_z w64 (of_z w64 c.col-2.result) -ℤ to_z w64 (of_z w64 c.col.result) +ℤ pos 1 =
-    subst (λ (z : ℤ). pos columns ≡ to_z w64 (of_z w64 c.col-2.result) -ℤ z +ℤ pos 1) (sym same_first) (subst (λ (z : ℤ). pos columns ≡ z -ℤ slot c.args.grid.now.w c.args.b.now.xlo +ℤ pos 1) (sym same_last) (columns_counted _ _ slots.order)) in
-    let few = c.put_free.ensures.few columns count in
     let met = alike (g.O.Occupied.range c.args.o.now c.args.step) _ _ _ _ _ _ _ _ same_g (read_low ∙ low) (read_high ∙ high) c.gather.ensures.met in
-    omega (arith, few, met, ap length c.deref.ensures.value)
+    omega (arith, c.find_free.ensures.few, met, ap length c.deref.ensures.value)
 
 pub returns-clause-room : goal.returns-clause-room
 returns-clause-room g c =

@@ -45,6 +45,24 @@ go_to-requires-clause-last g c =
 pub go_to-requires-clause-far : goal.go_to-requires-clause-far
 go_to-requires-clause-far g c = c.self.invariant.0.reach
 
+pub go_to-requires-clause-taken : goal.go_to-requires-clause-taken
+go_to-requires-clause-taken g c =
+    let can = c.self.invariant.0 in
+    let stands = c.self.invariant.1 in
+    let left : c.self.inside.at.step < c.self.inside.steps = subst (λ v. v.at < v.steps) (sym c.self.view_is) c.requires.left in
+    let few = can.few in
+    let rooms = can.rooms (c.self.inside.at.step + 1) (omega (arith, left)) in
+    rooms.taken_fit
+
+pub go_to-requires-clause-heads : goal.go_to-requires-clause-heads
+go_to-requires-clause-heads g c =
+    let can = c.self.invariant.0 in
+    let stands = c.self.invariant.1 in
+    let left : c.self.inside.at.step < c.self.inside.steps = subst (λ v. v.at < v.steps) (sym c.self.view_is) c.requires.left in
+    let few = can.few in
+    let rooms = can.rooms (c.self.inside.at.step + 1) (omega (arith, left)) in
+    rooms.heads_fit
+
 pub go_to-requires-clause-room : goal.go_to-requires-clause-room
 go_to-requires-clause-room g c =
     let can = c.self.invariant.0 in
@@ -106,6 +124,20 @@ put_all-requires-clause-room g c =
     over_state (λ o p s. HasRoom p s (g.O.Occupied.count o s) (g.O.Occupied.hits o s) (g.O.Occupied.range o s) c.clear.new.self.room) c.self.inside.at.o.now c.go_to.new.self.o.now c.self.inside.at.plan c.go_to.new.self.plan (c.self.inside.at.step + 1) c.go_to.new.self.step c.go_to.ensures.pieces c.go_to.ensures.plan c.go_to.ensures.step
     (subst (λ (n : ℕ). HasRoom c.self.inside.at.plan (c.self.inside.at.step + 1) (g.O.Occupied.count c.self.inside.at.o.now (c.self.inside.at.step + 1)) (g.O.Occupied.hits c.self.inside.at.o.now (c.self.inside.at.step + 1)) (g.O.Occupied.range c.self.inside.at.o.now (c.self.inside.at.step + 1)) n) (sym cleared) rooms.next_fit)
 
+pub put_all-requires-clause-ticks : goal.put_all-requires-clause-ticks
+put_all-requires-clause-ticks g c = c.self.invariant.2 ∙ ap (λ (p : Plan). p.k) (sym c.go_to.ensures.plan)
+
+pub put_all-requires-clause-planes : goal.put_all-requires-clause-planes
+put_all-requires-clause-planes g c =
+    let can = c.self.invariant.0 in
+    let stands = c.self.invariant.1 in
+    let left : c.self.inside.at.step < c.self.inside.steps = subst (λ v. v.at < v.steps) (sym c.self.view_is) c.requires.left in
+    let few = can.few in
+    let rooms = can.rooms (c.self.inside.at.step + 1) (omega (arith, left)) in
+    let counted = c.go_to.ensures.stage.listed.counted in
+    let heads = rooms.heads_fit in
+    omega (arith, counted, heads, c.self.invariant.3)
+
 pub invariant_of-self : goal.invariant_of-self
 invariant_of-self g c =
     let can = c.self.invariant.0 in
@@ -129,11 +161,12 @@ invariant_of-self g c =
     c.self.inside.steps c.self.inside.at.step c.go_to.new.self.b c.go_to.new.self.free.items c.go_to.new.self.ends.items c.self.inside.sets.sets c.put_all.new.out.sets left c.go_to.ensures.stage stands list leads in
     let sets_room : c.swap.new.x.room ≡ c.self.inside.next.room = ap (λ (l : SetRoom). l.room) c.swap.ensures.x_after ∙ c.put_all.ensures.room ∙ ap (λ (l : SetRoom). l.room) c.clear.ensures in
     let next_room : c.swap.new.y.room ≡ c.self.inside.sets.room = ap (λ (l : SetRoom). l.room) c.swap.ensures.y_after in
-    let runs = can_after c.self.inside.at.plan (g.O.Occupied.last c.self.inside.at.o.now) (g.O.Occupied.far c.self.inside.at.o.now) (g.O.Occupied.count c.self.inside.at.o.now) (g.O.Occupied.hits c.self.inside.at.o.now) (g.O.Occupied.range c.self.inside.at.o.now) c.self.inside.steps _ _ _ _ _ _ c.fill.new.table.most c.go_to.new.self.runs.room (vec_capacity c.go_to.new.self.ends) (vec_capacity c.go_to.new.self.free) c.swap.new.x.room c.swap.new.y.room
-    can (c.fill.ensures.most ∙ c.start.ensures.most) c.go_to.ensures.room c.go_to.ensures.rows c.go_to.ensures.capacity sets_room next_room in
-    over_state (λ o p s. CanRun p (g.O.Occupied.last o) (g.O.Occupied.far o) (g.O.Occupied.count o) (g.O.Occupied.hits o) (g.O.Occupied.range o) c.self.inside.steps c.fill.new.table.most c.go_to.new.self.runs.room (vec_capacity c.go_to.new.self.ends) (vec_capacity c.go_to.new.self.free) c.swap.new.x.room c.swap.new.y.room
+    let runs = can_after c.self.inside.at.plan (g.O.Occupied.last c.self.inside.at.o.now) (g.O.Occupied.far c.self.inside.at.o.now) (g.O.Occupied.count c.self.inside.at.o.now) (g.O.Occupied.hits c.self.inside.at.o.now) (g.O.Occupied.range c.self.inside.at.o.now) c.self.inside.steps _ _ _ _ _ _ _ _ c.fill.new.table.most c.go_to.new.self.taken.rows c.go_to.new.self.taken.room c.go_to.new.self.runs.room (vec_capacity c.go_to.new.self.ends) (vec_capacity c.go_to.new.self.free) c.swap.new.x.room c.swap.new.y.room
+    can (c.fill.ensures.most ∙ c.start.ensures.most) c.go_to.ensures.heads c.go_to.ensures.taken c.go_to.ensures.room c.go_to.ensures.rows c.go_to.ensures.capacity sets_room next_room in
+    let both = over_state (λ o p s. CanRun p (g.O.Occupied.last o) (g.O.Occupied.far o) (g.O.Occupied.count o) (g.O.Occupied.hits o) (g.O.Occupied.range o) c.self.inside.steps c.fill.new.table.most c.go_to.new.self.taken.rows c.go_to.new.self.taken.room c.go_to.new.self.runs.room (vec_capacity c.go_to.new.self.ends) (vec_capacity c.go_to.new.self.free) c.swap.new.x.room c.swap.new.y.room
     × StandsAt p (g.O.Occupied.last o) (g.O.Occupied.far o) (g.O.Occupied.count o) (g.O.Occupied.hits o) (g.O.Occupied.range o) c.self.inside.steps s c.swap.new.x.sets) c.self.inside.at.o.now c.go_to.new.self.o.now c.self.inside.at.plan c.go_to.new.self.plan (c.self.inside.at.step + 1) c.go_to.new.self.step c.go_to.ensures.pieces c.go_to.ensures.plan c.go_to.ensures.step
-    (runs, subst (λ (zs : List SetValue). StandsAt c.self.inside.at.plan (g.O.Occupied.last c.self.inside.at.o.now) (g.O.Occupied.far c.self.inside.at.o.now) (g.O.Occupied.count c.self.inside.at.o.now) (g.O.Occupied.hits c.self.inside.at.o.now) (g.O.Occupied.range c.self.inside.at.o.now) c.self.inside.steps (c.self.inside.at.step + 1) zs) (sym after) next)
+    (runs, subst (λ (zs : List SetValue). StandsAt c.self.inside.at.plan (g.O.Occupied.last c.self.inside.at.o.now) (g.O.Occupied.far c.self.inside.at.o.now) (g.O.Occupied.count c.self.inside.at.o.now) (g.O.Occupied.hits c.self.inside.at.o.now) (g.O.Occupied.range c.self.inside.at.o.now) c.self.inside.steps (c.self.inside.at.step + 1) zs) (sym after) next) in
+    (both.0, both.1, c.put_all.ensures.ticks ∙ c.self.invariant.2 ∙ ap (λ (p : Plan). p.k) (sym c.go_to.ensures.plan), c.put_all.ensures.planes ∙ c.self.invariant.3 ∙ sym c.go_to.ensures.heads)
 
 pub returns-clause-list : goal.returns-clause-list
 returns-clause-list g c =
