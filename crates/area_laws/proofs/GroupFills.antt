@@ -111,7 +111,7 @@ row_answer g k row (z ∷ ys) r y (old, rest, is) (inr j) = row_answer g k row y
 -- ---- all columns are done
 
 -- x has no part in any other column
-other_away : (w : ℤ) (x : List Pt) (first col : ℤ) (n : ℕ) → pos 0 <ℤ w → IsCornerList x → first ≡ slot w (least_place x) → n ≡ slots_met w (least_place x) (greatest_place x)
+pub other_away : (w : ℤ) (x : List Pt) (first col : ℤ) (n : ℕ) → pos 0 <ℤ w → IsCornerList x → first ≡ slot w (least_place x) → n ≡ slots_met w (least_place x) (greatest_place x)
     → (col <ℤ first) ⊎ ((first +ℤ pos n) ≤ℤ col) → IsClippedAway (places (slot_low w col) (slot_high w col)) x
 other_away w x first col n wide convex e f out = none_there x w col wide convex (past out)
   where

@@ -29,23 +29,3 @@ module _ (law : TablesFill) (p : Plan) (o : OuterBox) where
 
   pub fill_none : (t : Table) → t.step ≡ Some (o, p.grid, p.k) → ((col row : ℤ) → Holds t col row None) → IsFilledSo [] t
   fill_none t step empty i e = law.none (course_of p) i o p.grid t (record { step = step; box = e; w = refl; g = refl }) empty
-
-  -- one set more
-  more : (sets : List BaseSet) (n : ℕ) (b : BaseSet) → n < length sets → b ≡ get_or sets n b → map value_of (take (n + 1) sets) ≡ map value_of (take n sets) ++ value_of b ∷ []
-  more sets n b h e = ap (map value_of) (take_more sets n b h ∙ ap (λ (z : BaseSet). take n sets ++ z ∷ []) (sym e)) ∙ map-append value_of (take n sets) (b ∷ [])
-
-  pub fill_child : (sets : List BaseSet) (n : ℕ) (b : BaseSet) (x y : List Pt) (old new : Table) → n < length sets → b ≡ get_or sets n b
-      → AreChildren (course_of p) (rect_of_box o) (value_of b) (Some (x, y)) → HoldsNext (course_of p) (rect_of_box o) (value_of b) (Some (x, y)) → Adds old new x y
-      → IsFilledSo (take n sets) old → IsFilledSo (take (n + 1) sets) new
-  fill_child sets n b x y old new h e is holds adds before i at =
-      subst (λ (z : List SetValue). IsFilledFrom (course_of p) i z new) (sym (more sets n b h e))
-      (law.child (course_of p) i (map value_of (take n sets)) (value_of b) x y old new (before i at)
-      (subst (λ (r : Rect). AreChildren (course_of p) r (value_of b) (Some (x, y))) at is) (subst (λ (r : Rect). HoldsNext (course_of p) r (value_of b) (Some (x, y))) at holds) adds)
-
-  pub fill_childless : (sets : List BaseSet) (n : ℕ) (b : BaseSet) (t : Table) → n < length sets → b ≡ get_or sets n b
-      → AreChildren (course_of p) (rect_of_box o) (value_of b) None → HoldsNext (course_of p) (rect_of_box o) (value_of b) None
-      → IsFilledSo (take n sets) t → IsFilledSo (take (n + 1) sets) t
-  fill_childless sets n b t h e is holds before i at =
-      subst (λ (z : List SetValue). IsFilledFrom (course_of p) i z t) (sym (more sets n b h e))
-      (law.childless (course_of p) i (map value_of (take n sets)) (value_of b) t (before i at)
-      (subst (λ (r : Rect). AreChildren (course_of p) r (value_of b) None) at is) (subst (λ (r : Rect). HoldsNext (course_of p) r (value_of b) None) at holds))

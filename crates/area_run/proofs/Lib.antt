@@ -7,3 +7,9 @@ pub mod RowCodes
 pub mod Stepping
 pub mod Growing
 pub mod Starting
+pub mod Strips
+pub mod SlotCalls
+pub mod GroupSets
+pub mod KeptChildren
+pub mod JoinCalls
+pub mod ColumnCalls

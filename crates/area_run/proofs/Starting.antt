@@ -98,10 +98,10 @@ some_boxes plan b i most count range h e reach fits =
 -- ---- the run
 
 module _ (plan : Plan) (last far : ℕ) (count : ℕ → ℕ) (Hits : ℕ → ℕ → Pt → Type 0) (range : ℕ → ℕ → ℤ × ℤ) where
-  pub can_start : (steps cells heads taken runs rows free sets next : ℕ) (r : Rooms) → IsPlan plan → steps ≤ 100 → steps ≤ last → 35_000_000_000_000 ≤ far
-      → IsRoomBelow (course_of plan) count range (steps + 1) r → cells ≡ r.cells → heads ≡ r.rows → taken ≡ r.boxes → runs ≡ r.runs → r.rows ≤ rows → r.boxes ≤ free → sets ≡ r.boxes → next ≡ r.boxes
-      → CanRun plan last far count Hits range steps cells heads taken runs rows free sets next
-  can_start steps cells heads taken runs rows free sets next r is few asked reach g c p q u v w x y = record {
+  pub can_start : (steps cells heads taken runs rows free sets next strip : ℕ) (r : Rooms) → IsPlan plan → steps ≤ 100 → steps ≤ last → 35_000_000_000_000 ≤ far
+      → IsRoomBelow (course_of plan) count range (steps + 1) r → cells ≡ r.cells → heads ≡ r.rows → taken ≡ r.boxes → runs ≡ r.runs → r.rows ≤ rows → r.boxes ≤ free → sets ≡ r.boxes → next ≡ r.boxes → strip ≡ r.rows
+      → CanRun plan last far count Hits range steps cells heads taken runs rows free sets next strip
+  can_start steps cells heads taken runs rows free sets next strip r is few asked reach g c p q u v w x y z = record {
     plan_is = is;
     few = few;
     asked = asked;
@@ -115,6 +115,7 @@ module _ (plan : Plan) (last far : ℕ) (count : ℕ → ℕ) (Hits : ℕ → �
       free_fit = (let k = g.boxes.bound i (below i steps l) in omega (arith, k, w));
       sets_fit = (let k = g.boxes.bound i (below i steps l) in omega (arith, k, x));
       next_fit = (let k = g.boxes.bound i (below i steps l) in omega (arith, k, y));
+      strip_fit = (let k = g.rows.bound i (below i steps l) in omega (arith, k, z));
     };
   }
     where

@@ -72,9 +72,9 @@ pub over_state : {X : Type 0} (P : X → Plan → ℕ → Type 0) (o n : X) (p q
 over_state P o n p q i j e f k h = subst (λ x. P x q j) (sym e) (subst (λ (z : Plan). P o z j) (sym f) (subst (λ (z : ℕ). P o p z) (sym k) h))
 
 -- the two lists change their places; all other rooms are as large as before
-pub rooms_after : (course : Course) (count boxes i cells heads taken runs rows free sets next new_cells new_heads new_taken new_runs new_rows new_free new_sets new_next : ℕ) → AreRooms course count boxes i cells heads taken runs rows free sets next
-    → new_cells ≡ cells → new_heads ≡ heads → new_taken ≡ taken → new_runs ≡ runs → rows ≤ new_rows → free ≤ new_free → new_sets ≡ next → new_next ≡ sets → AreRooms course count boxes i new_cells new_heads new_taken new_runs new_rows new_free new_sets new_next
-rooms_after course count boxes i cells heads taken runs rows free sets next a m n b c d e f r p y z q u v w x = record {
+pub rooms_after : (course : Course) (count boxes i cells heads taken runs rows free sets next strip new_cells new_heads new_taken new_runs new_rows new_free new_sets new_next new_strip : ℕ) → AreRooms course count boxes i cells heads taken runs rows free sets next strip
+    → new_cells ≡ cells → new_heads ≡ heads → new_taken ≡ taken → new_runs ≡ runs → rows ≤ new_rows → free ≤ new_free → new_sets ≡ next → new_next ≡ sets → new_strip ≡ strip → AreRooms course count boxes i new_cells new_heads new_taken new_runs new_rows new_free new_sets new_next new_strip
+rooms_after course count boxes i cells heads taken runs rows free sets next strip a m n b c d e f g r p y z q u v w x s = record {
   cells_fit = let k = r.cells_fit in omega (arith, k, p);
   heads_fit = let k = r.heads_fit in omega (arith, k, y);
   taken_fit = let k = r.taken_fit in omega (arith, k, z);
@@ -83,15 +83,16 @@ rooms_after course count boxes i cells heads taken runs rows free sets next a m 
   free_fit = let k = r.free_fit in omega (arith, k, v);
   sets_fit = let k = r.next_fit in omega (arith, k, w);
   next_fit = let k = r.sets_fit in omega (arith, k, x);
+  strip_fit = let k = r.strip_fit in omega (arith, k, s);
 }
 
 module _ (plan : Plan) (last far : ℕ) (count : ℕ → ℕ) (Hits : ℕ → ℕ → Pt → Type 0) (range : ℕ → ℕ → ℤ × ℤ) where
-  pub can_after : (steps cells heads taken runs rows free sets next new_cells new_heads new_taken new_runs new_rows new_free new_sets new_next : ℕ) → CanRun plan last far count Hits range steps cells heads taken runs rows free sets next
-      → new_cells ≡ cells → new_heads ≡ heads → new_taken ≡ taken → new_runs ≡ runs → rows ≤ new_rows → free ≤ new_free → new_sets ≡ next → new_next ≡ sets → CanRun plan last far count Hits range steps new_cells new_heads new_taken new_runs new_rows new_free new_sets new_next
-  can_after steps cells heads taken runs rows free sets next a m n b c d e f h p y z q u v w x = record {
+  pub can_after : (steps cells heads taken runs rows free sets next strip new_cells new_heads new_taken new_runs new_rows new_free new_sets new_next new_strip : ℕ) → CanRun plan last far count Hits range steps cells heads taken runs rows free sets next strip
+      → new_cells ≡ cells → new_heads ≡ heads → new_taken ≡ taken → new_runs ≡ runs → rows ≤ new_rows → free ≤ new_free → new_sets ≡ next → new_next ≡ sets → new_strip ≡ strip → CanRun plan last far count Hits range steps new_cells new_heads new_taken new_runs new_rows new_free new_sets new_next new_strip
+  can_after steps cells heads taken runs rows free sets next strip a m n b c d e f g h p y z q u v w x s = record {
     plan_is = h.plan_is;
     few = h.few;
     asked = h.asked;
     reach = h.reach;
-    rooms = λ i l. rooms_after (course_of plan) (count i) (row_boxes (course_of plan) count range i) i cells heads taken runs rows free sets next a m n b c d e f (h.rooms i l) p y z q u v w x;
+    rooms = λ i l. rooms_after (course_of plan) (count i) (row_boxes (course_of plan) count range i) i cells heads taken runs rows free sets next strip a m n b c d e f g (h.rooms i l) p y z q u v w x s;
   }

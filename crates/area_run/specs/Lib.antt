@@ -6,3 +6,5 @@ pub mod Rows
 pub mod Stages
 pub mod Running
 pub mod Greatest
+pub mod Windows
+pub mod Strips

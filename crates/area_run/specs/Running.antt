@@ -23,8 +23,8 @@ pub record Stand (O : Type 0) : Type 0 where
   pub sets : List SetValue
 
 -- there is room for the cells of a step, for the rows and the spans of all rows, for the runs of a row, for the rows and the
--- runs of all rows, and for the sets
-pub record AreRooms (course : Course) (count : ℕ) (boxes : ℕ) (i cells heads taken runs rows free sets next : ℕ) : Type 0 where
+-- runs of all rows, for the sets, and for a strip of all rows
+pub record AreRooms (course : Course) (count : ℕ) (boxes : ℕ) (i cells heads taken runs rows free sets next strip : ℕ) : Type 0 where
   pub cells_fit : cells_at course i ≤ cells
   pub heads_fit : slots_met course.g (box_at course i).ylo (box_at course i).yhi ≤ heads
   pub taken_fit : boxes ≤ taken
@@ -33,16 +33,17 @@ pub record AreRooms (course : Course) (count : ℕ) (boxes : ℕ) (i cells heads
   pub free_fit : boxes ≤ free
   pub sets_fit : boxes ≤ sets
   pub next_fit : boxes ≤ next
+  pub strip_fit : slots_met course.g (box_at course i).ylo (box_at course i).yhi ≤ strip
 
 -- over the pieces of each step, and the ranges of their y
 module _ (plan : Plan) (last far : ℕ) (count : ℕ → ℕ) (Hits : ℕ → ℕ → Pt → Type 0) (range : ℕ → ℕ → ℤ × ℤ) where
   -- a run whose pieces may be asked for, and which has room for each of its steps
-  pub record CanRun (steps cells heads taken runs rows free sets next : ℕ) : Type 0 where
+  pub record CanRun (steps cells heads taken runs rows free sets next strip : ℕ) : Type 0 where
     pub plan_is : IsPlan plan
     pub few : steps ≤ MOST_STEPS
     pub asked : steps ≤ last
     pub reach : 35_000_000_000_000 ≤ far
-    pub rooms : (i : ℕ) → i ≤ steps → AreRooms (course_of plan) (count i) (row_boxes (course_of plan) count range i) i cells heads taken runs rows free sets next
+    pub rooms : (i : ℕ) → i ≤ steps → AreRooms (course_of plan) (count i) (row_boxes (course_of plan) count range i) i cells heads taken runs rows free sets next strip
 
   -- it stands at a step: the sets are its list, each motion that goes on to it is held by one of them, or was at a piece by
   -- then, and a step can be made from each of them

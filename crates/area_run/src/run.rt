@@ -1,5 +1,6 @@
 //! A run, step by step.
 
+use crate::children::Children;
 use crate::fault::AreaFault;
 use crate::fill::fill;
 use crate::first::first_sets;
@@ -8,6 +9,7 @@ use crate::plan::Plan;
 use crate::put::put_all;
 use crate::rooms::Rooms;
 use crate::rows::StepRuns;
+use crate::strip::Strip;
 use base_sets::{BaseSet, EgoBounds, EgoStart, Grid};
 use carve::{Occupied, SetList};
 use merge_sets::{CellTable, Planes};
@@ -31,12 +33,14 @@ pub struct AreaRun<'o, O: Occupied> {
     at: StepRuns<'o, O>,
     table: CellTable,
     planes: Planes,
+    children: Children,
+    strip: Strip,
     sets: SetList,
     next: SetList,
 }
 
 impl<'o, O: Occupied> Model for AreaRun<'o, O> {
-    ghost use Rattle.std.specs.Prelude.{◌≡◌, vec_capacity};
+    ghost use Rattle.std.specs.Prelude.{◌≡◌, length, vec_capacity};
     ghost use Rattle.area_run.specs.Running.{CanRun, Stand, StandsAt};
 
     ghost Value = { Stand O };
@@ -44,7 +48,7 @@ impl<'o, O: Occupied> Model for AreaRun<'o, O> {
     ghost view = { λ r. record { o = r.at.o.now; plan = r.at.plan; steps = r.steps; at = r.at.step; sets = r.sets.sets } };
 
     ghost invariant = { λ r.
-        CanRun r.at.plan (O.last r.at.o.now) (O.far r.at.o.now) (O.count r.at.o.now) (O.hits r.at.o.now) (O.range r.at.o.now) r.steps r.table.most r.at.taken.rows r.at.taken.room r.at.runs.room (vec_capacity r.at.ends) (vec_capacity r.at.free) r.sets.room r.next.room
+        CanRun r.at.plan (O.last r.at.o.now) (O.far r.at.o.now) (O.count r.at.o.now) (O.hits r.at.o.now) (O.range r.at.o.now) r.steps r.table.most r.at.taken.rows r.at.taken.room r.at.runs.room (vec_capacity r.at.ends) (vec_capacity r.at.free) r.sets.room r.next.room (length r.strip.rows.items)
         × StandsAt r.at.plan (O.last r.at.o.now) (O.far r.at.o.now) (O.count r.at.o.now) (O.hits r.at.o.now) (O.range r.at.o.now) r.steps r.at.step r.sets.sets
         × (r.planes.k ≡ r.at.plan.k) × (r.planes.rows ≡ r.at.taken.rows) };
 }
@@ -119,6 +123,8 @@ impl<'o, O: Occupied> AreaRun<'o, O> {
         let at = StepRuns::open(alloc, o, plan, &rooms)?;
         let table = CellTable::open(alloc, rooms.cells)?;
         let planes = Planes::open(alloc, rooms.rows, plan.k)?;
+        let children = Children::open(alloc, rooms.rows)?;
+        let strip = Strip::open(alloc, rooms.rows)?;
         let sets = first_sets(alloc, o, plan, rooms.boxes)?;
         let next = SetList::open(alloc, rooms.boxes)?;
         Ok(AreaRun {
@@ -126,6 +132,8 @@ impl<'o, O: Occupied> AreaRun<'o, O> {
             at,
             table,
             planes,
+            children,
+            strip,
             sets,
             next,
         })
@@ -145,7 +153,14 @@ impl<'o, O: Occupied> AreaRun<'o, O> {
         let plan = self.at.plan;
         let b = self.at.b;
         self.table.start(&b, &plan.grid, plan.k);
-        fill(&plan, &b, self.sets.list(), &mut self.table);
+        fill(
+            &plan,
+            &b,
+            self.sets.list(),
+            &mut self.table,
+            &mut self.children,
+            &mut self.strip,
+        );
         self.next.clear();
         put_all(&self.at, &self.table, &mut self.planes, &mut self.next);
         std::mem::swap(&mut self.sets, &mut self.next);

@@ -89,6 +89,13 @@ const FIELD: Rectangles = Rectangles {
     y: (-50_000_000, 50_000_000),
 };
 
+/// 80 cm along x and two rows of a metre.
+const BAR: Rectangles = Rectangles {
+    count: 1,
+    x: (600_000, 1_400_000),
+    y: (0, 1_999_999),
+};
+
 /// Whether the set has this column, this row and these corners.
 fn is_set(set: &BaseSet, col: i64, row: i64, x: &[Pt], y: &[Pt]) -> bool {
     set.col == col && set.row == row && set.x.corners() == x && set.y.corners() == y
@@ -136,6 +143,81 @@ fn one_step_from_rest(rt: HostRuntime) -> Result<(), Fail> {
     assert!(rt; is_set(&sets[1], -1, 0, &low, &high));
     assert!(rt; is_set(&sets[2], 0, -1, &high, &low));
     assert!(rt; is_set(&sets[3], 0, 0, &high, &high));
+    Ok(())
+}
+
+/// The sums of all places and of seven times all speeds, along x and along y.
+fn sums_of(sets: &[BaseSet]) -> (i64, i64) {
+    let mut x: i64 = 0;
+    let mut y: i64 = 0;
+    for set in sets {
+        x = x.wrapping_add(sum_of(set.x.corners()));
+        y = y.wrapping_add(sum_of(set.y.corners()));
+    }
+    (x, y)
+}
+
+fn sum_of(corners: &[Pt]) -> i64 {
+    let mut sum: i64 = 0;
+    for corner in corners {
+        sum = sum
+            .wrapping_add(corner.x)
+            .wrapping_add(corner.y.wrapping_mul(7));
+    }
+    sum
+}
+
+/// In two rows of a column two sets stand side by side, between rows with one: neighbours differ along x, and sets that aren't
+/// neighbours are equal along it.
+#[test]
+fn two_sets_of_a_cell(rt: HostRuntime) -> Result<(), Fail> {
+    let whole = [
+        Pt { x: 0, y: -4001 },
+        Pt { x: 1998, y: -4000 },
+        Pt {
+            x: 1_999_999,
+            y: -3,
+        },
+        Pt {
+            x: 1_999_999,
+            y: 6001,
+        },
+        Pt { x: 1, y: 4002 },
+        Pt { x: 0, y: 4001 },
+    ];
+    let right = [
+        Pt {
+            x: 1_400_001,
+            y: -1204,
+        },
+        Pt {
+            x: 1_999_999,
+            y: -3,
+        },
+        Pt {
+            x: 1_999_999,
+            y: 6001,
+        },
+        Pt {
+            x: 1_400_001,
+            y: 5402,
+        },
+    ];
+    let mut run = AreaRun::open(rt.alloc(), &BAR, &REST, &BOUNDS, &GRID, 1000, 3)?;
+    run.step();
+    let sets = run.sets();
+    assert_eq!(rt; sets.len(), 62);
+    assert_eq!(rt; sums_of(sets), (-11_916_106, -26_891_103));
+    assert_eq!(rt; sets[34].x.corners(), whole.as_slice());
+    assert_eq!(rt; sets[36].x.corners(), right.as_slice());
+    assert_eq!(rt; sets[35].y.corners(), sets[36].y.corners());
+    assert_eq!(rt; sets[39].x.corners(), whole.as_slice());
+    run.step();
+    assert_eq!(rt; run.sets().len(), 614);
+    assert_eq!(rt; sums_of(run.sets()), (-469_877_530, -748_004_844));
+    run.step();
+    assert_eq!(rt; run.sets().len(), 2814);
+    assert_eq!(rt; sums_of(run.sets()), (-2_516_267_830, -3_876_810_746));
     Ok(())
 }
 

@@ -17,3 +17,4 @@ pub mod PlaneLists
 pub mod Collections
 pub mod Openings
 pub mod Clearings
+pub mod StripItems

@@ -7,3 +7,4 @@ pub mod Merging
 pub mod Adding
 pub mod Opening
 pub mod Planes
+pub mod Strips

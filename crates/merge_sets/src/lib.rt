@@ -9,11 +9,13 @@ mod columns;
 mod places;
 mod planes;
 mod slots;
+mod strips;
 mod table;
 
 pub use adding::slots_of;
 pub use planes::Planes;
-pub use slots::slot_numbers;
+pub use slots::{put_rows, slot_numbers};
+pub use strips::{forget, join_parts};
 pub use table::CellTable;
 
 /// A table has of each cell the greatest numbers of all parts that came in since the step began.

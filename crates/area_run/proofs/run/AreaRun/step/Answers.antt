@@ -1,6 +1,6 @@
-use Rattle.std.proofs.Common.{rules, ◌≡◌, ◌∙◌, ◌+◌, ◌≤◌, ◌<◌, ◌+ℤ◌, ℕ, pos, List, [], map, arith, sym, ap, subst, vec_capacity}
+use Rattle.std.proofs.Common.{rules, ◌≡◌, ◌∙◌, ◌+◌, ◌≤◌, ◌<◌, ◌+ℤ◌, ℕ, pos, List, [], map, arith, sym, ap, subst, length, vec_capacity}
 use Rattle.spot_terms.specs.BaseSets.{Rect, SetValue}
-use Rattle.spot_terms.specs.Courses.{box_at, cells_of}
+use Rattle.spot_terms.specs.Courses.{box_at, cells_of, slots_met}
 use Rattle.spot_terms.specs.Grid.{slot}
 use Rattle.spot_terms.specs.Lists.{Includes}
 use Rattle.spot_terms.specs.StepLists.{IsNextList}
@@ -11,6 +11,7 @@ use Rattle.area_laws.specs.Leading.{LeadsOn}
 use Rattle.area_run.specs.Plans.{course_of}
 use Rattle.area_run.specs.Running.{CanRun, StandsAt}
 use Rattle.area_run.specs.Stages.{Advances, HasRoom, IsStage}
+use Rattle.area_run.specs.Strips.{row_count}
 use Rattle.area_run.specs.declared.plan.Plan.{Plan}
 use Rattle.area_run.proofs.Stepping.{begun, made, stands_next, over_state, can_after}
 use Rattle.area_run.proofs.run.AreaRun.step.Goals as goal
@@ -103,6 +104,14 @@ start-requires-clause-room g c =
 pub fill-requires-clause-sets : goal.fill-requires-clause-sets
 fill-requires-clause-sets g c = λ set j. c.self.invariant.1.ready set (subst (λ (bs : List SetValue). Includes bs set) c.list.ensures j)
 
+pub fill-requires-clause-room : goal.fill-requires-clause-room
+fill-requires-clause-room g c =
+    let can = c.self.invariant.0 in
+    let left : c.self.inside.at.step < c.self.inside.steps = subst (λ v. v.at < v.steps) (sym c.self.view_is) c.requires.left in
+    let rooms = can.rooms (c.self.inside.at.step + 1) (omega (arith, left)) in
+    subst (λ (p : Plan). row_count p c.go_to.new.self.b ≤ length c.self.inside.strip.rows.items) (sym c.go_to.ensures.plan)
+    (subst (λ (r : Rect). slots_met c.self.inside.at.plan.grid.g r.ylo r.yhi ≤ length c.self.inside.strip.rows.items) (sym c.go_to.ensures.stage.exact) rooms.strip_fit)
+
 pub put_all-requires-clause-stage : goal.put_all-requires-clause-stage
 put_all-requires-clause-stage g c =
     let stage_new = over_state (λ o p s. IsStage p s (g.O.Occupied.count o s) (g.O.Occupied.hits o s) (g.O.Occupied.range o s) c.go_to.new.self.b c.go_to.new.self.free.items c.go_to.new.self.ends.items) c.self.inside.at.o.now c.go_to.new.self.o.now c.self.inside.at.plan c.go_to.new.self.plan (c.self.inside.at.step + 1) c.go_to.new.self.step c.go_to.ensures.pieces c.go_to.ensures.plan c.go_to.ensures.step c.go_to.ensures.stage in
@@ -161,9 +170,9 @@ invariant_of-self g c =
     c.self.inside.steps c.self.inside.at.step c.go_to.new.self.b c.go_to.new.self.free.items c.go_to.new.self.ends.items c.self.inside.sets.sets c.put_all.new.out.sets left c.go_to.ensures.stage stands list leads in
     let sets_room : c.swap.new.x.room ≡ c.self.inside.next.room = ap (λ (l : SetRoom). l.room) c.swap.ensures.x_after ∙ c.put_all.ensures.room ∙ ap (λ (l : SetRoom). l.room) c.clear.ensures in
     let next_room : c.swap.new.y.room ≡ c.self.inside.sets.room = ap (λ (l : SetRoom). l.room) c.swap.ensures.y_after in
-    let runs = can_after c.self.inside.at.plan (g.O.Occupied.last c.self.inside.at.o.now) (g.O.Occupied.far c.self.inside.at.o.now) (g.O.Occupied.count c.self.inside.at.o.now) (g.O.Occupied.hits c.self.inside.at.o.now) (g.O.Occupied.range c.self.inside.at.o.now) c.self.inside.steps _ _ _ _ _ _ _ _ c.fill.new.table.most c.go_to.new.self.taken.rows c.go_to.new.self.taken.room c.go_to.new.self.runs.room (vec_capacity c.go_to.new.self.ends) (vec_capacity c.go_to.new.self.free) c.swap.new.x.room c.swap.new.y.room
-    can (c.fill.ensures.most ∙ c.start.ensures.most) c.go_to.ensures.heads c.go_to.ensures.taken c.go_to.ensures.room c.go_to.ensures.rows c.go_to.ensures.capacity sets_room next_room in
-    let both = over_state (λ o p s. CanRun p (g.O.Occupied.last o) (g.O.Occupied.far o) (g.O.Occupied.count o) (g.O.Occupied.hits o) (g.O.Occupied.range o) c.self.inside.steps c.fill.new.table.most c.go_to.new.self.taken.rows c.go_to.new.self.taken.room c.go_to.new.self.runs.room (vec_capacity c.go_to.new.self.ends) (vec_capacity c.go_to.new.self.free) c.swap.new.x.room c.swap.new.y.room
+    let runs = can_after c.self.inside.at.plan (g.O.Occupied.last c.self.inside.at.o.now) (g.O.Occupied.far c.self.inside.at.o.now) (g.O.Occupied.count c.self.inside.at.o.now) (g.O.Occupied.hits c.self.inside.at.o.now) (g.O.Occupied.range c.self.inside.at.o.now) c.self.inside.steps _ _ _ _ _ _ _ _ _ c.fill.new.table.most c.go_to.new.self.taken.rows c.go_to.new.self.taken.room c.go_to.new.self.runs.room (vec_capacity c.go_to.new.self.ends) (vec_capacity c.go_to.new.self.free) c.swap.new.x.room c.swap.new.y.room (length c.fill.new.strip.rows.items)
+    can (c.fill.ensures.most ∙ c.start.ensures.most) c.go_to.ensures.heads c.go_to.ensures.taken c.go_to.ensures.room c.go_to.ensures.rows c.go_to.ensures.capacity sets_room next_room c.fill.ensures.room in
+    let both = over_state (λ o p s. CanRun p (g.O.Occupied.last o) (g.O.Occupied.far o) (g.O.Occupied.count o) (g.O.Occupied.hits o) (g.O.Occupied.range o) c.self.inside.steps c.fill.new.table.most c.go_to.new.self.taken.rows c.go_to.new.self.taken.room c.go_to.new.self.runs.room (vec_capacity c.go_to.new.self.ends) (vec_capacity c.go_to.new.self.free) c.swap.new.x.room c.swap.new.y.room (length c.fill.new.strip.rows.items)
     × StandsAt p (g.O.Occupied.last o) (g.O.Occupied.far o) (g.O.Occupied.count o) (g.O.Occupied.hits o) (g.O.Occupied.range o) c.self.inside.steps s c.swap.new.x.sets) c.self.inside.at.o.now c.go_to.new.self.o.now c.self.inside.at.plan c.go_to.new.self.plan (c.self.inside.at.step + 1) c.go_to.new.self.step c.go_to.ensures.pieces c.go_to.ensures.plan c.go_to.ensures.step
     (runs, subst (λ (zs : List SetValue). StandsAt c.self.inside.at.plan (g.O.Occupied.last c.self.inside.at.o.now) (g.O.Occupied.far c.self.inside.at.o.now) (g.O.Occupied.count c.self.inside.at.o.now) (g.O.Occupied.hits c.self.inside.at.o.now) (g.O.Occupied.range c.self.inside.at.o.now) c.self.inside.steps (c.self.inside.at.step + 1) zs) (sym after) next) in
     (both.0, both.1, c.put_all.ensures.ticks ∙ c.self.invariant.2 ∙ ap (λ (p : Plan). p.k) (sym c.go_to.ensures.plan), c.put_all.ensures.planes ∙ c.self.invariant.3 ∙ sym c.go_to.ensures.heads)
