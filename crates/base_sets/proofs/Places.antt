@@ -1,5 +1,5 @@
 -- The least and the greatest place of a polygon.
-use Rattle.std.proofs.Common.{◌≡◌, ◌∙◌, ◌≤◌, arith, refl, sym, ap, subst, ℤ, pos, ◌≤ℤ◌, List, [], ◌∷◌, map, inl, inr, to_z, of_z, w64, get_or}
+use Rattle.std.proofs.Common.{◌≡◌, ◌∙◌, ◌≤◌, arith, refl, sym, ap, subst, ℤ, pos, ◌*ℤ◌, ◌+ℤ◌, ◌≤ℤ◌, List, [], ◌∷◌, map, inl, inr, to_z, of_z, w64, get_or}
 use Rattle.std.specs.Prelude.{nat_abs}
 use Rattle.std.specs.Int.{int_min}
 use Rattle.std.specs.List.{AllByRecursion}

@@ -77,8 +77,7 @@ linked_step links i link (s ∷ rest) (k, next, e, there, down, more) got =
     let same : k ≡ i = same_Some k i (sym e) in
     let is = same_Some (record { span = s; next = next }) link (sym there ∙ ap (slice_get links) same ∙ got) in
     let first : s ≡ link.span = ap (λ (l : Link). l.span) is in
-    let then : next ≡ link.next = ap (λ (l : Link). l.next) is in
-    (
+    let then : next ≡ link.next = ap (λ (l : Link). l.next) is in (
       rest,
       ap (λ (z : Span). z ∷ rest) first,
       subst (λ (z : Option ℕ). AreLinked links z rest) then more,

@@ -184,7 +184,17 @@ fn put_piece<O: Occupied>(
     let before = rows_before(low, b, grid.g);
     for j in before..before + rows_shared(low, high, b, grid.g) {
         let row = first + j as i64;
-        put_row(heads, links, o, step, piece, (low, high), row, grid.g, j as usize);
+        put_row(
+            heads,
+            links,
+            o,
+            step,
+            piece,
+            (low, high),
+            row,
+            grid.g,
+            j as usize,
+        );
     }
 }
 

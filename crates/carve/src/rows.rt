@@ -118,7 +118,13 @@ fn gather<O: Occupied>(o: &O, step: u32, low: i64, high: i64, g: i64, spans: &mu
 }
 
 // The x at which both ends lie in the piece. A piece whose range doesn't reach both isn't asked.
-pub(crate) fn run_across<O: Occupied>(o: &O, step: u32, piece: u32, low: i64, high: i64) -> Option<(i64, i64)>
+pub(crate) fn run_across<O: Occupied>(
+    o: &O,
+    step: u32,
+    piece: u32,
+    low: i64,
+    high: i64,
+) -> Option<(i64, i64)>
     requires step { step ≤ O.last o.now }
     requires piece { piece < O.count o.now step }
     requires ordered { low ≤ℤ high }

@@ -67,13 +67,7 @@ impl Planes {
     }
 
     /// The set of a cell of a table, in the `j`-th row, as `CellTable::merged` has it. The table's step is one of as many ticks.
-    pub fn merged(
-        &mut self,
-        table: &CellTable,
-        col: i64,
-        row: i64,
-        j: usize,
-    ) -> Option<BaseSet>
+    pub fn merged(&mut self, table: &CellTable, col: i64, row: i64, j: usize) -> Option<BaseSet>
         requires ticks { HasTicks table.now self.old.k }
         requires row { j < self.old.rows }
         ensures merged { IsMergedIn table.now col row (option_map value_of result) }

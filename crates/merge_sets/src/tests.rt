@@ -8,7 +8,7 @@ ghost use Rattle.base_sets.specs.declared.grid.Grid.{Grid as GridOf};
 
 use super::*;
 use crate::cell_rows::ROWS;
-use base_sets::{Grid, OuterBox};
+use base_sets::{BaseSet, Grid, OuterBox};
 use convex_poly::{Poly, Pt, hull};
 use std::alloc::{AllocError, Global};
 use std::process::Abort;
@@ -153,7 +153,12 @@ fn are_corners(corners: &[Pt], pairs: &[(i64, i64)]) -> bool {
 
 /// Whether the table has a set of this column and row with these corners.
 fn has_set(table: &CellTable, col: i64, row: i64, x: &[(i64, i64)], y: &[(i64, i64)]) -> bool {
-    match table.merged(col, row) {
+    is_set(table.merged(col, row), col, row, x, y)
+}
+
+/// Whether there is a set, and has this column and row and these corners.
+fn is_set(set: Option<BaseSet>, col: i64, row: i64, x: &[(i64, i64)], y: &[(i64, i64)]) -> bool {
+    match set {
         Some(b) => {
             b.col == col
                 && b.row == row
@@ -221,6 +226,12 @@ fn area_from_rest(rt: HostRuntime) -> Result<(), Fail> {
     assert!(rt; has_set(&table, -1, 0, &below, &above));
     assert!(rt; has_set(&table, 0, -1, &above, &below));
     assert!(rt; has_set(&table, 0, 0, &above, &above));
+    let mut planes = Planes::open(rt.alloc(), 2, 100)?;
+    assert!(rt; is_set(planes.merged(&table, -1, -1, 0), -1, -1, &below, &below));
+    assert!(rt; is_set(planes.merged(&table, -1, 0, 1), -1, 0, &below, &above));
+    assert!(rt; is_set(planes.merged(&table, 0, -1, 0), 0, -1, &above, &below));
+    assert!(rt; is_set(planes.merged(&table, 0, 0, 1), 0, 0, &above, &above));
+    assert!(rt; planes.merged(&table, 1, 0, 1).is_none());
     assert_eq!(rt; sets_in(&table, -3, 6, -3, 6), 4);
     assert!(rt; table.merged(i64::MIN, i64::MAX).is_none());
     // a step that begins is empty

@@ -33,14 +33,14 @@ pub push_span-requires : goal.push_span-requires
 push_span-requires c =
     let rest = c.loop-at.invariant.rest in
     let below = read_room c.args.links.now c.loop-at.at c.args.from c.in-Some.i c.loop-at.spans.items rest.0 (get_or c.args.links.now c.in-Some.i no_link) c.in-Some.is
-        (got c.args.links.now c.loop-at.at c.in-Some.i rest.0 rest.1 c.in-Some.is) rest.1 rest.2 c.requires.linked.0 (vec_capacity c.args.spans.now) c.requires.linked.1 c.requires.linked.3 in
+    (got c.args.links.now c.loop-at.at c.in-Some.i rest.0 rest.1 c.in-Some.is) rest.1 rest.2 c.requires.linked.0 (vec_capacity c.args.spans.now) c.requires.linked.1 c.requires.linked.3 in
     record { room = omega (arith, below, c.loop-at.invariant.capacity) }
 
 pub loop-at-smaller : goal.loop-at-smaller
 loop-at-smaller c =
     let rest = c.loop-at.invariant.rest in
     read_less c.args.links.now c.loop-at.at c.args.from c.in-Some.i c.loop-at.spans.items rest.0 (get_or c.args.links.now c.in-Some.i no_link) c.in-Some.is
-        (got c.args.links.now c.loop-at.at c.in-Some.i rest.0 rest.1 c.in-Some.is) rest.1 rest.2
+    (got c.args.links.now c.loop-at.at c.in-Some.i rest.0 rest.1 c.in-Some.is) rest.1 rest.2
 
 pub loop-at-preserved : goal.loop-at-preserved
 loop-at-preserved c =
@@ -57,7 +57,7 @@ returns-clause-spans c =
     let all = all_read c.args.links.now c.loop-at.at c.args.from c.loop-at.spans.items rest.0 (none_of c.loop-at.at c.in_default.not-Some) rest.1 rest.2 in
     let same = linked_one c.args.links.now c.requires.linked.0 c.loop-at.spans.items c.args.from c.requires.linked.1 all in
     some_sorted c.loop-at.spans.items c.sort_unstable.new.self.items (subst (λ (zs : List Span). AreSome zs) same c.requires.linked.2) c.sort_unstable.ensures.permutation
-        (λ k m. in_order (span_at c.sort_unstable.new.self.items (k + 1)) (span_at c.sort_unstable.new.self.items k) (c.sort_unstable.ensures.sorted k nowhere (omega arith) m))
+    (λ k m. in_order (span_at c.sort_unstable.new.self.items (k + 1)) (span_at c.sort_unstable.new.self.items k) (c.sort_unstable.ensures.sorted k nowhere (omega arith) m))
 
 pub returns-clause-same : goal.returns-clause-same
 returns-clause-same c = λ all h x.

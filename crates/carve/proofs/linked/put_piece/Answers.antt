@@ -35,8 +35,8 @@ loop-j-init g c =
     record {
       rows = rows_begun hits range c.args.grid.now.g wide (slot c.args.grid.now.g c.args.b.now.ylo) c.args.heads.now c.args.links.now.items c.args.piece c.rows_before-before.result
           (λ i less. below_range hits range c.args.grid.now.g wide c.args.piece (slot c.args.grid.now.g c.args.b.now.ylo +ℤ pos i) (λ q h. g.met.O.Occupied.in_range c.args.o.now c.args.step c.args.piece q h)
-              (subst (λ (s : ℤ × ℤ). (slot c.args.grid.now.g c.args.b.now.ylo +ℤ pos i) <ℤ slot c.args.grid.now.g s.0) c.requires.range
-              (rows_earlier c.args.grid.now.g c.args.low c.args.high c.args.b.now.ylo c.args.b.now.yhi wide c.requires.order c.requires.reach.y c.rows_before-before.result is i less)))
+          (subst (λ (s : ℤ × ℤ). (slot c.args.grid.now.g c.args.b.now.ylo +ℤ pos i) <ℤ slot c.args.grid.now.g s.0) c.requires.range
+          (rows_earlier c.args.grid.now.g c.args.low c.args.high c.args.b.now.ylo c.args.b.now.yhi wide c.requires.order c.requires.reach.y c.rows_before-before.result is i less)))
           c.requires.taken;
       count = refl;
       from = omega arith;
@@ -142,9 +142,9 @@ returns-clause-taken g c =
     let met : c.rows_shared.result ≡ slots_shared c.args.grid.now.g (c.args.low, c.args.high) (c.args.b.now.ylo, c.args.b.now.yhi) = simp to_z-of_z at c.rows_shared.ensures.value in
     rows_ended hits range c.args.grid.now.g wide (slot c.args.grid.now.g c.args.b.now.ylo) c.loop-j.heads c.loop-j.links.items c.args.piece c.loop-j.j
     (λ i l later. above_range hits range c.args.grid.now.g wide c.args.piece (slot c.args.grid.now.g c.args.b.now.ylo +ℤ pos i) (λ q h. g.met.O.Occupied.in_range c.args.o.now c.args.step c.args.piece q h)
-        (subst (λ (s : ℤ × ℤ). slot c.args.grid.now.g s.1 <ℤ (slot c.args.grid.now.g c.args.b.now.ylo +ℤ pos i)) c.requires.range
-        (rows_later c.args.grid.now.g c.args.low c.args.high c.args.b.now.ylo c.args.b.now.yhi wide c.requires.order c.requires.reach.y c.rows_before-before.result is i
-        (omega (arith, later, c.loop-j-test.false, met)) (omega (arith, l, c.loop-j.invariant.count, c.requires.count)))))
+    (subst (λ (s : ℤ × ℤ). slot c.args.grid.now.g s.1 <ℤ (slot c.args.grid.now.g c.args.b.now.ylo +ℤ pos i)) c.requires.range
+    (rows_later c.args.grid.now.g c.args.low c.args.high c.args.b.now.ylo c.args.b.now.yhi wide c.requires.order c.requires.reach.y c.rows_before-before.result is i
+    (omega (arith, later, c.loop-j-test.false, met)) (omega (arith, l, c.loop-j.invariant.count, c.requires.count)))))
     c.loop-j.invariant.rows
 
 pub returns-clause-few : goal.returns-clause-few

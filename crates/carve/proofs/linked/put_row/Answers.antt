@@ -45,7 +45,7 @@ returns-in-Some-clause-has g c =
     let top : slot_high c.args.g c.args.row ≤ℤ (range c.args.piece).1 = subst (λ (z : ℤ). z ≤ℤ (range c.args.piece).1) (read_high ∙ high) c.in-Some.ensures.met.1 in
     let (next, here) = item_at c.args.heads.now c.args.j c.requires.row in
     row_hit hits range c.args.g wide c.args.heads.now c.link_span.new.heads c.args.links.now.items c.link_span.new.links.items c.args.piece c.args.j c.args.row
-        (record { first = c.in-Some.first; last = c.in-Some.last }) next c.requires.row here c.link_span.ensures.heads (search (rules, c.link_span.ensures.links next here)) bottom top span.ordered span.exact c.requires.has
+    (record { first = c.in-Some.first; last = c.in-Some.last }) next c.requires.row here c.link_span.ensures.heads (search (rules, c.link_span.ensures.links next here)) bottom top span.ordered span.exact c.requires.has
 
 pub returns-in-Some-clause-others : goal.returns-in-Some-clause-others
 returns-in-Some-clause-others g c =
@@ -64,7 +64,7 @@ returns-in_default-clause-has g c =
     let high : c.row_ends-low.result.1 ≡ slot_high c.args.g c.args.row = simp to_z-of_z at c.row_ends-low.ensures.high in
     let wide : pos 0 <ℤ c.args.g = positive c.args.g c.requires.height in
     row_missed hits range c.args.g wide c.args.heads.now c.args.heads.now c.args.links.now.items c.args.links.now.items c.args.piece c.args.j c.args.row
-        (not_across hits range c.args.g wide c.args.piece c.args.row _ _ (read_low ∙ low) (read_high ∙ high) c.in_default.ensures.run) refl refl c.requires.has
+    (not_across hits range c.args.g wide c.args.piece c.args.row _ _ (read_low ∙ low) (read_high ∙ high) c.in_default.ensures.run) refl refl c.requires.has
 
 pub returns-in-Some-clause-few : goal.returns-in-Some-clause-few
 returns-in-Some-clause-few g c =

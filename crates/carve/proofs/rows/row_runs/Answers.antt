@@ -13,7 +13,6 @@ use Rattle.carve.proofs.rows.row_runs.Goals as goal
 in_order : (g row low high : ℤ) → Within (pos 100_000) (pos 100_000_000) g → low ≡ slot_low g row → high ≡ slot_high g row → low ≤ℤ high
 in_order g row low high w a b = let k = w.low in omega (arith, ints)
 
-
 pub row_ends-low-requires-clause-low : goal.row_ends-low-requires-clause-low
 row_ends-low-requires-clause-low g c =
     let fits_row : FitsSigned w64 c.args.row = c.ranges.row in
