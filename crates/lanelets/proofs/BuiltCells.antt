@@ -22,6 +22,9 @@ use Rattle.spot_terms.proofs.ItemPlaces.{item_at}
 pub as_many : (lanes : List Lane) (made : List Placed) → Pairwise (IsPlaced lanes) (cells lanes) made → length made ≡ length (cells lanes)
 as_many lanes made p = same_lengths (IsPlaced lanes) (cells lanes) made p
 
+pub placed_as : (lanes : List Lane) (made all : List Placed) → all ≡ made → Pairwise (IsPlaced lanes) (cells lanes) made → Pairwise (IsPlaced lanes) (cells lanes) all
+placed_as lanes made all e p = subst (Pairwise (IsPlaced lanes) (cells lanes)) (sym e) p
+
 pub cell_at : (lanes : List Lane) (made : List Placed) (c : ℕ) (x : Placed) → Pairwise (IsPlaced lanes) (cells lanes) made → c < length (cells lanes) → x ≡ get_or made c x → IsCellAt lanes c x.cell
 cell_at lanes made c x all h e =
     let many = as_many lanes made all in

@@ -80,9 +80,5 @@ pub bridge_number : (lists : List (List ℕ)) (net : List NetCell) (c e f : ℕ)
 bridge_number lists net c e f o j = ((λ h. cc), (λ h. absurd (no_part e f h.0 h.1 h.2 h.3 (sym (origin_is net c h.4 (Bridge e f) h.5 o) ∙ h.6))))
 
 -- as the code has them
-pub kept_near : (lanes : List Lane) (cells looked again : List Placed) (kept kept_looked : List KeptLane) (nearby : Nearby) → looked ≡ cells → again ≡ cells → kept_looked ≡ kept → Pairwise IsKept lanes kept → IsNearby lanes (net_of looked) nearby
-    → AreKept lanes (net_of again) kept_looked nearby
-kept_near lanes cells looked again kept kept_looked nearby e f g p n = record {
-  each = subst (Pairwise IsKept lanes) (sym g) p;
-  near = subst (λ (z : List Placed). IsNearby lanes (net_of z) nearby) (e ∙ sym f) n;
-}
+pub kept_near : (lanes : List Lane) (cells : List Placed) (kept looked : List KeptLane) (nearby : Nearby) → looked ≡ kept → Pairwise IsKept lanes kept → IsNearby lanes (net_of cells) nearby → AreKept lanes (net_of cells) looked nearby
+kept_near lanes cells kept looked nearby e p n = record { each = subst (Pairwise IsKept lanes) (sym e) p; near = n }

@@ -9,15 +9,15 @@ ghost use Rattle.lanelets.specs.Links.{AreLinks};
 ghost use Rattle.lanelets.specs.Listing.{AreBelow, AreLists, Gathers};
 ghost use Rattle.lanelets.specs.Steps.{net_of, IsOfLane, LeadsTo, IsInside, IsJoined, IsJoinedFrom, AreJoints, IsOntoFirst};
 
-use crate::cell::Placed;
 use crate::columns::columns_of;
 use crate::lanes::{lane_at, lane_count};
 use crate::links::Links;
 use crate::numbers::{Numbers, list_at};
+use crate::placed::PlacedCells;
 use crate::portals::{first_portal, is_same_portal, last_portal};
 use crate::steps::{Joints, is_of_lane, joints_of, origin_at};
 use indexmap::IndexMap;
-use spot_terms::{MOST_CELLS, Origin, RawLane};
+use spot_terms::{Origin, RawLane};
 use std::alloc::{AllocError, Global};
 
 // Whether the lanelet at `f` begins where that at `e` ends.
@@ -55,7 +55,7 @@ fn add_joined(
 }
 
 // Adds the cell before this one, where it is of this lanelet.
-fn add_previous(row: &mut Numbers, cells: &[Placed], d: u32, lane: u32) -> Result<(), AllocError>
+fn add_previous(row: &mut Numbers, cells: &PlacedCells, d: u32, lane: u32) -> Result<(), AllocError>
     ensures { OnOk result (Gathers (λ c. (d ≡ c + 1) × IsOfLane (net_of cells.now) c lane) row.old row.new) }
 {
     if d > 0 && is_of_lane(cells, d - 1, lane) {
@@ -96,7 +96,7 @@ fn cells_before(
     alloc: Global,
     lanes: &IndexMap<u32, RawLane>,
     links: &Links,
-    cells: &[Placed],
+    cells: &PlacedCells,
     joints: &Joints,
     d: u32,
 ) -> Result<Numbers, AllocError>
@@ -130,19 +130,18 @@ pub(crate) fn ahead_of(
     alloc: Global,
     lanes: &IndexMap<u32, RawLane>,
     links: &Links,
-    cells: &[Placed],
+    cells: &PlacedCells,
 ) -> Result<Vec<Numbers>, AllocError>
     requires buildable { AreBuildable lanes.now.entries }
     requires links { AreLinks lanes.now.entries links.now }
-    requires few { length cells.now ≤ MOST_CELLS }
     requires inside { AllByRecursion (λ p. IsInside (length lanes.now.entries) p.origin) cells.now }
     ensures { IfOk result (λ ahead. AreLists (IsAhead lanes.now.entries (net_of cells.now)) (length cells.now) ahead.items) }
 {
     let joints = joints_of(alloc, cells, lane_count(lanes))?;
     let mut rows = Vec::new(alloc);
-    for d in 0..cells.len() as u32 {
+    for d in 0..cells.len() {
         rows.push(cells_before(alloc, lanes, links, cells, &joints, d)?)?;
     }
-    let ahead = columns_of(alloc, &rows, cells.len() as u32)?;
+    let ahead = columns_of(alloc, &rows, cells.len())?;
     Ok(ahead)
 }

@@ -21,6 +21,7 @@ use crate::links::{Links, links_of};
 use crate::making::add_lanes;
 use crate::nearby::nearby_of;
 use crate::network::Network;
+use crate::placed::PlacedCells;
 use crate::widths::first_wide;
 use indexmap::IndexMap;
 use spot_terms::{MOST_CELLS, RawLane};
@@ -57,12 +58,12 @@ fn network_of(
     requires few { length (cells lanes.now.entries) ≤ MOST_CELLS }
     ensures { IfOk result (λ network. network ≡ lanes.now.entries) }
 {
-    let cells = cells_of(alloc, lanes, links, count)?;
+    let cells = PlacedCells::from_vec(cells_of(alloc, lanes, links, count)?);
     let kept = kept_lanes(alloc, lanes)?;
     let ahead = ahead_of(alloc, lanes, links, &cells)?;
     let nearby = nearby_of(alloc, lanes, &cells)?;
     let classes = classes_of(alloc, &cells, &kept, &nearby)?;
-    let boxes = boxes_of(alloc, &cells)?;
+    let boxes = boxes_of(alloc, cells.list())?;
     Ok(Network::of(lanes, cells, boxes, kept, ahead, classes))
 }
 

@@ -9,14 +9,13 @@ ghost use Rattle.lanelets.specs.Listing.{AreRows};
 ghost use Rattle.lanelets.specs.Nearby.{AreKept};
 ghost use Rattle.lanelets.specs.Steps.{net_of, IsInside};
 
-use crate::cell::Placed;
 use crate::columns::columns_of;
 use crate::kept::KeptLane;
 use crate::levels::settle;
 use crate::nearby::Nearby;
 use crate::numbers::{Numbers, one_or_none};
 use crate::pairs::side_pairs;
-use spot_terms::MOST_CELLS;
+use crate::placed::PlacedCells;
 use std::alloc::{AllocError, Global};
 
 /// For each cell the number of its class, which is the least of the cells to which side moves lead from it, and for each
@@ -41,17 +40,16 @@ fn own_numbers(alloc: Global, count: u32) -> Result<Vec<u32>, AllocError>
 // For each cell the number of its class.
 fn class_numbers(
     alloc: Global,
-    cells: &[Placed],
+    cells: &PlacedCells,
     lanes: &[KeptLane],
     nearby: &Nearby,
 ) -> Result<Vec<u32>, AllocError>
-    requires few { length cells.now ≤ MOST_CELLS }
     requires inside { AllByRecursion (λ p. IsInside (length lanes.now) p.origin) cells.now }
     requires kept { (every : List Lane) × AreKept every (net_of cells.now) lanes.now nearby.now }
     ensures { IfOk result (λ numbers. (every : List Lane) → AreKept every (net_of cells.now) lanes.now nearby.now → AreClassNumbers every (net_of cells.now) numbers.items) }
 {
     let pairs = side_pairs(alloc, cells, lanes, nearby)?;
-    let mut numbers = own_numbers(alloc, cells.len() as u32)?;
+    let mut numbers = own_numbers(alloc, cells.len())?;
     settle(&pairs, &mut numbers);
     Ok(numbers)
 }
@@ -70,18 +68,17 @@ fn class_rows(alloc: Global, numbers: &[u32]) -> Result<Vec<Numbers>, AllocError
 /// The classes of the cells.
 pub(crate) fn classes_of(
     alloc: Global,
-    cells: &[Placed],
+    cells: &PlacedCells,
     lanes: &[KeptLane],
     nearby: &Nearby,
 ) -> Result<Classes, AllocError>
-    requires few { length cells.now ≤ MOST_CELLS }
     requires inside { AllByRecursion (λ p. IsInside (length lanes.now) p.origin) cells.now }
     requires kept { (every : List Lane) × AreKept every (net_of cells.now) lanes.now nearby.now }
     ensures { IfOk result (λ classes. (every : List Lane) → AreKept every (net_of cells.now) lanes.now nearby.now → AreClasses every (net_of cells.now) classes) }
 {
     let numbers = class_numbers(alloc, cells, lanes, nearby)?;
     let rows = class_rows(alloc, &numbers)?;
-    let members = columns_of(alloc, &rows, cells.len() as u32)?;
+    let members = columns_of(alloc, &rows, cells.len())?;
     Ok(Classes {
         numbers,
         cells: members,

@@ -9,9 +9,9 @@ ghost use Rattle.lanelets.specs.Buildable.{AreBuildable};
 ghost use Rattle.lanelets.specs.Kept.{AreBeside, IsKept};
 ghost use Rattle.lanelets.specs.Steps.{net_of, IsInside};
 
-use crate::cell::Placed;
 use crate::lanes::{lane_at, lane_count};
 use crate::numbers::{Numbers, has_number};
+use crate::placed::PlacedCells;
 use crate::steps::origin_at;
 use indexmap::IndexMap;
 use spot_terms::{Origin, RawLane};
@@ -115,7 +115,7 @@ pub(crate) fn lane_of(origin: Origin) -> Option<u32>
 }
 
 /// Whether two cells lie side by side.
-pub(crate) fn are_side_cells(cells: &[Placed], lanes: &[KeptLane], c: u32, d: u32) -> bool
+pub(crate) fn are_side_cells(cells: &PlacedCells, lanes: &[KeptLane], c: u32, d: u32) -> bool
     requires inside { AllByRecursion (λ p. IsInside (length lanes.now) p.origin) cells.now }
     requires first { c < length cells.now }
     requires second { d < length cells.now }

@@ -22,6 +22,7 @@ mod network;
 mod numbers;
 mod pairs;
 mod piece;
+mod placed;
 mod portals;
 mod search;
 mod steps;

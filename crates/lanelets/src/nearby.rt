@@ -7,12 +7,12 @@ ghost use Rattle.lanelets.specs.Listing.{AreLists, AreRows};
 ghost use Rattle.lanelets.specs.Nearby.{AreListed, AreSideRows, HasPieceNumber, IsNearby, IsPieceNumber};
 ghost use Rattle.lanelets.specs.Steps.{net_of, IsInside, IsOfLane};
 
-use crate::cell::Placed;
 use crate::columns::columns_of;
 use crate::kept::lane_of;
 use crate::lanes::{lane_at, lane_count};
 use crate::links::places_of;
 use crate::numbers::{Numbers, list_at, one_or_none};
+use crate::placed::PlacedCells;
 use crate::steps::origin_at;
 use indexmap::IndexMap;
 use spot_terms::{MOST_CELLS, Origin, RawLane};
@@ -68,7 +68,7 @@ fn neighbours_of(alloc: Global, lanes: &IndexMap<u32, RawLane>) -> Result<Vec<Nu
 }
 
 /// The position of the lanelet that a cell is a part of.
-pub(crate) fn lane_at_cell(cells: &[Placed], c: u32) -> Option<u32>
+pub(crate) fn lane_at_cell(cells: &PlacedCells, c: u32) -> Option<u32>
     requires { c < length cells.now }
     ensures { (e : ℕ) → (result ≡ Some e) ↔ IsOfLane (net_of cells.now) c e }
 {
@@ -76,21 +76,20 @@ pub(crate) fn lane_at_cell(cells: &[Placed], c: u32) -> Option<u32>
 }
 
 // For each cell the lanelet that it is a part of.
-fn lane_rows(alloc: Global, cells: &[Placed]) -> Result<Vec<Numbers>, AllocError>
-    requires { length cells.now ≤ MOST_CELLS }
-    ensures { IfOk result (λ rows. AreRows (λ c e. IsOfLane (net_of cells.now) c e) (length cells.now) rows.items) }
+fn lane_rows(alloc: Global, cells: &PlacedCells) -> Result<Vec<Numbers>, AllocError>
+    ensures is { IfOk result (λ rows. AreRows (λ c e. IsOfLane (net_of cells.now) c e) (length cells.now) rows.items) }
+    ensures few { length cells.now ≤ MOST_CELLS }
 {
     let mut rows = Vec::new(alloc);
-    for c in 0..cells.len() as u32 {
+    for c in 0..cells.len() {
         rows.push(one_or_none(alloc, lane_at_cell(cells, c))?)?;
     }
     Ok(rows)
 }
 
 // For each of so many lanelets the cells that are parts of it.
-fn parts_of(alloc: Global, cells: &[Placed], count: u32) -> Result<Vec<Numbers>, AllocError>
-    requires few { length cells.now ≤ MOST_CELLS }
-    requires inside { AllByRecursion (λ p. IsInside count p.origin) cells.now }
+fn parts_of(alloc: Global, cells: &PlacedCells, count: u32) -> Result<Vec<Numbers>, AllocError>
+    requires { AllByRecursion (λ p. IsInside count p.origin) cells.now }
     ensures { IfOk result (λ parts. AreLists (λ e c. IsOfLane (net_of cells.now) c e) count parts.items) }
 {
     let rows = lane_rows(alloc, cells)?;
@@ -118,16 +117,13 @@ pub(crate) fn piece_number(parts: &[Numbers], e: u32, piece: u32, count: u32) ->
 }
 
 // The number of the piece that a cell is a part of.
-fn piece_at_cell(cells: &[Placed], parts: &[Numbers], c: u32) -> Option<u32>
-    requires few { length cells.now ≤ MOST_CELLS }
+fn piece_at_cell(cells: &PlacedCells, parts: &[Numbers], c: u32) -> Option<u32>
     requires inside { AllByRecursion (λ p. IsInside (length parts.now) p.origin) cells.now }
     requires within { c < length cells.now }
     ensures { (k : ℕ) → (result ≡ Some k) ↔ HasPieceNumber parts.now (net_of cells.now) c k }
 {
     match origin_at(cells, c) {
-        Origin::Part { lane, piece, .. } => {
-            Some(piece_number(parts, lane, piece, cells.len() as u32))
-        }
+        Origin::Part { lane, piece, .. } => { Some(piece_number(parts, lane, piece, cells.len())) }
         Origin::Bridge { .. } => None,
     }
 }
@@ -135,28 +131,30 @@ fn piece_at_cell(cells: &[Placed], parts: &[Numbers], c: u32) -> Option<u32>
 // For each cell the number of the piece that it is a part of.
 fn piece_rows(
     alloc: Global,
-    cells: &[Placed],
+    cells: &PlacedCells,
     parts: &[Numbers],
 ) -> Result<Vec<Numbers>, AllocError>
-    requires few { length cells.now ≤ MOST_CELLS }
-    requires inside { AllByRecursion (λ p. IsInside (length parts.now) p.origin) cells.now }
+    requires { AllByRecursion (λ p. IsInside (length parts.now) p.origin) cells.now }
     ensures { IfOk result (λ rows. AreRows (λ c k. HasPieceNumber parts.now (net_of cells.now) c k) (length cells.now) rows.items) }
 {
     let mut rows = Vec::new(alloc);
-    for c in 0..cells.len() as u32 {
+    for c in 0..cells.len() {
         rows.push(one_or_none(alloc, piece_at_cell(cells, parts, c))?)?;
     }
     Ok(rows)
 }
 
 // For each number of a piece the cells that are parts of that piece.
-fn pieces_of(alloc: Global, cells: &[Placed], parts: &[Numbers]) -> Result<Vec<Numbers>, AllocError>
-    requires few { length cells.now ≤ MOST_CELLS }
-    requires inside { AllByRecursion (λ p. IsInside (length parts.now) p.origin) cells.now }
+fn pieces_of(
+    alloc: Global,
+    cells: &PlacedCells,
+    parts: &[Numbers],
+) -> Result<Vec<Numbers>, AllocError>
+    requires { AllByRecursion (λ p. IsInside (length parts.now) p.origin) cells.now }
     ensures { IfOk result (λ pieces. AreLists (λ k c. HasPieceNumber parts.now (net_of cells.now) c k) (length cells.now) pieces.items) }
 {
     let rows = piece_rows(alloc, cells, parts)?;
-    let pieces = columns_of(alloc, &rows, cells.len() as u32)?;
+    let pieces = columns_of(alloc, &rows, cells.len())?;
     Ok(pieces)
 }
 
@@ -164,10 +162,9 @@ fn pieces_of(alloc: Global, cells: &[Placed], parts: &[Numbers]) -> Result<Vec<N
 pub(crate) fn nearby_of(
     alloc: Global,
     lanes: &IndexMap<u32, RawLane>,
-    cells: &[Placed],
+    cells: &PlacedCells,
 ) -> Result<Nearby, AllocError>
     requires buildable { AreBuildable lanes.now.entries }
-    requires few { length cells.now ≤ MOST_CELLS }
     requires inside { AllByRecursion (λ p. IsInside (length lanes.now.entries) p.origin) cells.now }
     ensures { IfOk result (λ nearby. IsNearby lanes.now.entries (net_of cells.now) nearby) }
 {

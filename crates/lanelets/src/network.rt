@@ -2,10 +2,11 @@
 
 ghost use Rattle.spot_terms.specs.Cells.{cells};
 
-use crate::cell::{Cell, Placed};
+use crate::cell::Cell;
 use crate::classes::Classes;
 use crate::kept::{KeptLane, are_side_cells};
 use crate::numbers::{Numbers, has_number, list_at};
+use crate::placed::PlacedCells;
 use crate::search::{CellList, cells_holding};
 use convex_poly::BoundingBox;
 use indexmap::IndexMap;
@@ -18,7 +19,7 @@ use std::snapshot::Snapshot;
 #[derive(Drop)]
 pub struct Network {
     built_from: Snapshot<IndexMap<u32, RawLane>>,
-    cells: Vec<Placed>,
+    cells: PlacedCells,
     boxes: Vec<BoundingBox>,
     lanes: Vec<KeptLane>,
     ahead: Vec<Numbers>,
@@ -34,7 +35,7 @@ impl Model for Network {
 
     ghost view = { λ n. n.built_from.value.entries };
 
-    ghost invariant = { λ n. IsBuilt n.built_from.value.entries n.cells.items n.boxes.items n.lanes.items n.ahead.items n.classes };
+    ghost invariant = { λ n. IsBuilt n.built_from.value.entries n.cells n.boxes.items n.lanes.items n.ahead.items n.classes };
 }
 
 impl Network {
@@ -50,13 +51,13 @@ impl Network {
     // each, and their classes.
     pub(crate) fn of(
         lanes: &IndexMap<u32, RawLane>,
-        cells: Vec<Placed>,
+        cells: PlacedCells,
         boxes: Vec<BoundingBox>,
         kept: Vec<KeptLane>,
         ahead: Vec<Numbers>,
         classes: Classes,
     ) -> Network
-        requires { IsBuilt lanes.now.entries cells.items boxes.items kept.items ahead.items classes }
+        requires { IsBuilt lanes.now.entries cells boxes.items kept.items ahead.items classes }
         ensures { result ≡ lanes.now.entries }
     {
         Network {
@@ -73,7 +74,7 @@ impl Network {
     pub fn len(&self) -> u32
         ensures { result ≡ length (cells self.now) }
     {
-        self.cells.len() as u32
+        self.cells.len()
     }
 
     /// The cell with a number.
@@ -81,7 +82,7 @@ impl Network {
         requires { c < length (cells self.now) }
         ensures { IsCellAt self.now c result.now }
     {
-        &self.cells[c as usize].cell
+        &self.cells.list()[c as usize].cell
     }
 
     /// Whether one goes ahead from cell `c` to cell `d`.

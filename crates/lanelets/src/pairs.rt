@@ -11,19 +11,19 @@ ghost use Rattle.lanelets.specs.Listing.{AreBelow};
 ghost use Rattle.lanelets.specs.Nearby.{AreKept};
 ghost use Rattle.lanelets.specs.Steps.{net_of, IsInside, IsOfLane};
 
-use crate::cell::Placed;
 use crate::kept::{KeptLane, are_side_cells, have_as_many_points};
 use crate::levels::Pair;
 use crate::nearby::{Nearby, lane_at_cell, piece_number};
 use crate::numbers::list_at;
+use crate::placed::PlacedCells;
 use crate::steps::origin_at;
-use spot_terms::{MOST_CELLS, Origin};
+use spot_terms::Origin;
 use std::alloc::{AllocError, Global};
 
 // Adds the pairs of a cell and each of the list that lies beside it.
 fn push_among(
     pairs: &mut Vec<Pair>,
-    cells: &[Placed],
+    cells: &PlacedCells,
     lanes: &[KeptLane],
     c: u32,
     list: &[u32],
@@ -47,13 +47,12 @@ fn push_among(
 // Cells of which those of the lanelet at `f` that lie beside the cell are some: of lanelets with equal numbers of points
 // those of the same piece.
 fn candidates<'a>(
-    cells: &[Placed],
+    cells: &PlacedCells,
     lanes: &[KeptLane],
     nearby: &'a Nearby,
     c: u32,
     f: u32,
 ) -> &'a [u32]
-    requires few { length cells.now ≤ MOST_CELLS }
     requires inside { AllByRecursion (λ p. IsInside (length lanes.now) p.origin) cells.now }
     requires kept { (every : List Lane) × AreKept every (net_of cells.now) lanes.now nearby.now }
     requires within { c < length cells.now }
@@ -67,20 +66,19 @@ fn candidates<'a>(
     if !have_as_many_points(lanes, lane, f) {
         return list_at(&nearby.parts, f);
     }
-    let number = piece_number(&nearby.parts, f, piece, cells.len() as u32);
+    let number = piece_number(&nearby.parts, f, piece, cells.len());
     list_at(&nearby.pieces, number)
 }
 
 // Adds pairs of a cell and of those that lie beside it, among them all in the lanelets at these positions.
 fn push_near(
     pairs: &mut Vec<Pair>,
-    cells: &[Placed],
+    cells: &PlacedCells,
     lanes: &[KeptLane],
     nearby: &Nearby,
     c: u32,
     near: &[u32],
 ) -> Result<(), AllocError>
-    requires few { length cells.now ≤ MOST_CELLS }
     requires inside { AllByRecursion (λ p. IsInside (length lanes.now) p.origin) cells.now }
     requires kept { (every : List Lane) × AreKept every (net_of cells.now) lanes.now nearby.now }
     requires within { c < length cells.now }
@@ -102,12 +100,11 @@ fn push_near(
 // Adds the pairs of a cell and each that lies beside it.
 fn push_sides(
     pairs: &mut Vec<Pair>,
-    cells: &[Placed],
+    cells: &PlacedCells,
     lanes: &[KeptLane],
     nearby: &Nearby,
     c: u32,
 ) -> Result<(), AllocError>
-    requires few { length cells.now ≤ MOST_CELLS }
     requires inside { AllByRecursion (λ p. IsInside (length lanes.now) p.origin) cells.now }
     requires kept { (every : List Lane) × AreKept every (net_of cells.now) lanes.now nearby.now }
     requires within { c < length cells.now }
@@ -130,17 +127,16 @@ fn push_sides(
 /// compared.
 pub(crate) fn side_pairs(
     alloc: Global,
-    cells: &[Placed],
+    cells: &PlacedCells,
     lanes: &[KeptLane],
     nearby: &Nearby,
 ) -> Result<Vec<Pair>, AllocError>
-    requires few { length cells.now ≤ MOST_CELLS }
     requires inside { AllByRecursion (λ p. IsInside (length lanes.now) p.origin) cells.now }
     requires kept { (every : List Lane) × AreKept every (net_of cells.now) lanes.now nearby.now }
     ensures { IfOk result (λ pairs. (every : List Lane) → AreKept every (net_of cells.now) lanes.now nearby.now → AreSidePairs every (net_of cells.now) pairs.items) }
 {
     let mut pairs = Vec::new(alloc);
-    for c in 0..cells.len() as u32 {
+    for c in 0..cells.len() {
         push_sides(&mut pairs, cells, lanes, nearby, c)?;
     }
     Ok(pairs)

@@ -7,9 +7,9 @@ ghost use Rattle.lanelets.specs.Holding.{HoldsAt};
 ghost use Rattle.convex_poly.specs.Boxes.{IsBoxOf};
 ghost use Rattle.lanelets.specs.Boxes.{AreBoxes};
 
-use crate::cell::Placed;
+use crate::placed::PlacedCells;
 use convex_poly::{BoundingBox, Poly};
-use spot_terms::{Items, MOST_CELLS, Pt};
+use spot_terms::{Items, Pt};
 use std::alloc::{AllocError, Global};
 
 /// A list of numbers of cells.
@@ -26,17 +26,16 @@ fn holds(poly: &Poly, around: &BoundingBox, p: Pt) -> bool
 /// The numbers of the cells that hold a point.
 pub(crate) fn cells_holding(
     alloc: Global,
-    cells: &[Placed],
+    cells: &PlacedCells,
     boxes: &[BoundingBox],
     p: Pt,
 ) -> Result<CellList, AllocError>
-    requires few { length cells.now ≤ MOST_CELLS }
-    requires boxes { AreBoxes cells.now boxes.now }
+    requires { AreBoxes cells.now boxes.now }
     ensures { IfOk result (λ list. Lists (HoldsAt cells.now p) list) }
 {
     let mut list = Vec::new(alloc);
     for (c, around) in boxes.iter().enumerate() {
-        if holds(&cells[c].cell.poly, around, p) {
+        if holds(&cells.list()[c].cell.poly, around, p) {
             list.push(c as u32)?;
         }
     }

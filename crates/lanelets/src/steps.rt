@@ -6,9 +6,9 @@ ghost use Rattle.spot_terms.specs.Network.{EndsLane, lane_of};
 ghost use Rattle.lanelets.specs.Listing.{AreRows};
 ghost use Rattle.lanelets.specs.Steps.{net_of, HasOrigin, IsOfLane, LeadsTo, IsInside, AreJoints};
 
-use crate::cell::Placed;
 use crate::columns::columns_of;
 use crate::numbers::{Numbers, one_or_none};
+use crate::placed::PlacedCells;
 use spot_terms::{MOST_CELLS, Origin};
 use std::alloc::{AllocError, Global};
 
@@ -20,11 +20,12 @@ pub(crate) struct Joints {
 }
 
 /// Where the cell with a number comes from.
-pub(crate) fn origin_at(cells: &[Placed], c: u32) -> Origin
+pub(crate) fn origin_at(cells: &PlacedCells, c: u32) -> Origin
     requires { c < length cells.now }
-    ensures { HasOrigin (net_of cells.now) c result }
+    ensures is { HasOrigin (net_of cells.now) c result }
+    ensures few { length cells.now ≤ MOST_CELLS }
 {
-    cells[c as usize].origin
+    cells.list()[c as usize].origin
 }
 
 // Whether a cell that comes from there is a part of the lanelet at this position.
@@ -38,19 +39,18 @@ fn is_part_of(origin: Origin, e: u32) -> bool
 }
 
 // Whether there is a cell with this number, and it is a part of the lanelet.
-pub(crate) fn is_of_lane(cells: &[Placed], c: u32, e: u32) -> bool
+pub(crate) fn is_of_lane(cells: &PlacedCells, c: u32, e: u32) -> bool
     ensures { IsTrue result ↔ IsOfLane (net_of cells.now) c e }
 {
-    if c as usize >= cells.len() {
+    if c >= cells.len() {
         return false;
     }
     is_part_of(origin_at(cells, c), e)
 }
 
 // The lanelet of which the cell is the last.
-fn ended_lane(cells: &[Placed], c: u32) -> Option<u32>
-    requires few { length cells.now ≤ MOST_CELLS }
-    requires within { c < length cells.now }
+fn ended_lane(cells: &PlacedCells, c: u32) -> Option<u32>
+    requires { c < length cells.now }
     ensures { (e : ℕ) → (result ≡ Some e) ↔ EndsLane (net_of cells.now) c e }
 {
     match origin_at(cells, c) {
@@ -66,7 +66,7 @@ fn ended_lane(cells: &[Placed], c: u32) -> Option<u32>
 }
 
 // The lanelet to which the cell leads as a bridge.
-fn bridged_lane(cells: &[Placed], c: u32) -> Option<u32>
+fn bridged_lane(cells: &PlacedCells, c: u32) -> Option<u32>
     requires { c < length cells.now }
     ensures { (f : ℕ) → (result ≡ Some f) ↔ LeadsTo (net_of cells.now) c f }
 {
@@ -77,33 +77,35 @@ fn bridged_lane(cells: &[Placed], c: u32) -> Option<u32>
 }
 
 // For each cell the lanelet that it ends.
-fn ended_lanes(alloc: Global, cells: &[Placed]) -> Result<Vec<Numbers>, AllocError>
-    requires { length cells.now ≤ MOST_CELLS }
-    ensures { IfOk result (λ rows. AreRows (λ c e. EndsLane (net_of cells.now) c e) (length cells.now) rows.items) }
+fn ended_lanes(alloc: Global, cells: &PlacedCells) -> Result<Vec<Numbers>, AllocError>
+    ensures is { IfOk result (λ rows. AreRows (λ c e. EndsLane (net_of cells.now) c e) (length cells.now) rows.items) }
+    ensures few { length cells.now ≤ MOST_CELLS }
 {
     let mut rows = Vec::new(alloc);
-    for c in 0..cells.len() as u32 {
+    for c in 0..cells.len() {
         rows.push(one_or_none(alloc, ended_lane(cells, c))?)?;
     }
     Ok(rows)
 }
 
 // For each cell the lanelet to which it leads as a bridge.
-fn bridged_lanes(alloc: Global, cells: &[Placed]) -> Result<Vec<Numbers>, AllocError>
-    requires { length cells.now ≤ MOST_CELLS }
+fn bridged_lanes(alloc: Global, cells: &PlacedCells) -> Result<Vec<Numbers>, AllocError>
     ensures { IfOk result (λ rows. AreRows (λ c f. LeadsTo (net_of cells.now) c f) (length cells.now) rows.items) }
 {
     let mut rows = Vec::new(alloc);
-    for c in 0..cells.len() as u32 {
+    for c in 0..cells.len() {
         rows.push(one_or_none(alloc, bridged_lane(cells, c))?)?;
     }
     Ok(rows)
 }
 
 /// The cells at which so many lanelets end, and the bridges that lead to them.
-pub(crate) fn joints_of(alloc: Global, cells: &[Placed], count: u32) -> Result<Joints, AllocError>
-    requires few { length cells.now ≤ MOST_CELLS }
-    requires inside { AllByRecursion (λ p. IsInside count p.origin) cells.now }
+pub(crate) fn joints_of(
+    alloc: Global,
+    cells: &PlacedCells,
+    count: u32,
+) -> Result<Joints, AllocError>
+    requires { AllByRecursion (λ p. IsInside count p.origin) cells.now }
     ensures { IfOk result (λ joints. AreJoints count (net_of cells.now) joints) }
 {
     let ended = ended_lanes(alloc, cells)?;

@@ -12,11 +12,11 @@ loop-d-preserved c =
 
 pub columns_of-requires-clause-within : goal.columns_of-requires-clause-within
 columns_of-requires-clause-within c =
-    rw c.deref.ensures.value (rows_within (λ d k. IsAhead c.args.lanes.now.entries (net_of c.args.cells.now) k d) c.loop-d.d (length c.args.cells.now) c.loop-d.rows.items c.loop-d.invariant (λ d k a. (ahead_low c.args.lanes.now.entries c.args.cells.now k d a).0))
+    rw (c.deref.ensures.value, c.len.ensures.is) (rows_within (λ d k. IsAhead c.args.lanes.now.entries (net_of c.args.cells.now) k d) c.loop-d.d (length c.args.cells.now) c.loop-d.rows.items c.loop-d.invariant (λ d k a. (ahead_low c.args.lanes.now.entries c.args.cells.now k d a).0))
 
 pub returns : goal.returns
 returns c =
     let all : c.loop-d.d ≡ length c.args.cells.now = omega arith in
-    let turned : AreColumns c.loop-d.rows.items (length c.args.cells.now) c.in_ok-ahead.ahead.items = rw c.deref.ensures.value at c.in_ok-ahead.ensures in
+    let turned : AreColumns c.loop-d.rows.items (length c.args.cells.now) c.in_ok-ahead.ahead.items = rw (c.deref.ensures.value, c.len.ensures.is) at c.in_ok-ahead.ensures in
     lists_of (λ d k. IsAhead c.args.lanes.now.entries (net_of c.args.cells.now) k d) c.loop-d.d (length c.args.cells.now) c.loop-d.rows.items c.in_ok-ahead.ahead.items c.loop-d.invariant
     (λ d k a. let low = (ahead_low c.args.lanes.now.entries c.args.cells.now k d a).1 in omega (arith, low, all)) turned

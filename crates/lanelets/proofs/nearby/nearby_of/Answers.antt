@@ -7,8 +7,8 @@ use Rattle.lanelets.specs.Steps.{net_of, IsInside, IsOfLane}
 use Rattle.lanelets.proofs.PairLists.{net_many}
 use Rattle.lanelets.proofs.nearby.nearby_of.Goals as goal
 
-pub pieces_of-requires-clause-inside : goal.pieces_of-requires-clause-inside
-pieces_of-requires-clause-inside c =
+pub pieces_of-requires : goal.pieces_of-requires
+pieces_of-requires c =
     let many : length c.deref.result.now ≡ length c.args.lanes.now.entries = ap length c.deref.ensures.value ∙ c.in_ok-parts.ensures.many ∙ c.lane_count.ensures.is in
     subst (λ (n : ℕ). AllByRecursion (λ (p : Placed). IsInside n p.origin) c.args.cells.now) (sym many) c.requires.inside
 

@@ -1,4 +1,4 @@
-use Rattle.std.proofs.Common.{◌≡◌, ℕ, List, length, sym, ap, subst, arith}
+use Rattle.std.proofs.Common.{◌≡◌, ◌∙◌, ℕ, List, length, sym, ap, subst, arith}
 use Rattle.std.specs.Prelude.{Some, slice_get}
 use Rattle.spot_terms.specs.declared.network.Origin.TheVariants.{Part}
 use Rattle.lanelets.specs.Nearby.{IsPieceNumber}
@@ -20,7 +20,7 @@ returns-in_default-clause-below c =
     parts_below c.requires.kept.0 c.args.cells.now c.args.lanes.now c.args.nearby.now c.requires.kept.1 c.args.f c.list_at.result.now here
 
 pub have_as_many_points-requires-clause-first : goal.have_as_many_points-requires-clause-first
-have_as_many_points-requires-clause-first c = origin_inside (length c.args.lanes.now) c.args.cells.now c.args.c (Part c.in-Part.lane c.in-Part.piece c.in-Part.part c.in-Part.parts) c.requires.inside c.in-Part.ensures
+have_as_many_points-requires-clause-first c = origin_inside (length c.args.lanes.now) c.args.cells.now c.args.c (Part c.in-Part.lane c.in-Part.piece c.in-Part.part c.in-Part.parts) c.requires.inside c.in-Part.ensures.is
 
 pub list_at-requires-then-not-have_as_many_points : goal.list_at-requires-then-not-have_as_many_points
 list_at-requires-then-not-have_as_many_points c =
@@ -54,7 +54,7 @@ returns-clause-all c = λ every k d of s.
     let net = net_of c.args.cells.now in
     let here : slice_get c.args.nearby.now.pieces.items c.piece_number-number.result ≡ Some c.list_at-2.result.now = rw c.deref-3.ensures.value at c.list_at-2.ensures in
     let number : IsPieceNumber c.args.nearby.now.parts.items (length net) c.args.f c.in-Part.piece c.piece_number-number.result = subst (λ (lists : List (List ℕ)). IsPieceNumber lists (length net) c.args.f c.in-Part.piece c.piece_number-number.result) c.deref-2.ensures.value
-    (subst (λ (n : ℕ). IsPieceNumber c.deref-2.result.now n c.args.f c.in-Part.piece c.piece_number-number.result) (sym (net_many c.args.cells.now)) c.piece_number-number.ensures.is) in
+    (subst (λ (n : ℕ). IsPieceNumber c.deref-2.result.now n c.args.f c.in-Part.piece c.piece_number-number.result) (c.len.ensures.is ∙ sym (net_many c.args.cells.now)) c.piece_number-number.ensures.is) in
     (k.near.pieces.each c.piece_number-number.result c.list_at-2.result.now here).all d
-    (side_piece every net c.args.nearby.now.parts.items c.args.c d c.in-Part.lane c.args.f c.in-Part.piece c.in-Part.part c.in-Part.parts c.piece_number-number.result c.in-Part.ensures number of
+    (side_piece every net c.args.nearby.now.parts.items c.args.c d c.in-Part.lane c.args.f c.in-Part.piece c.in-Part.part c.in-Part.parts c.piece_number-number.result c.in-Part.ensures.is number of
     (λ l m hl hm. (c.have_as_many_points.ensures every k.each l m hl hm).0 c.if-not-have_as_many_points.false) s)

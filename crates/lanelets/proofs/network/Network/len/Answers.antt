@@ -3,13 +3,8 @@ use Rattle.spot_terms.specs.Cells.{Lane, cells}
 use Rattle.lanelets.proofs.BuiltCells.{as_many}
 use Rattle.lanelets.proofs.network.Network.len.Goals as goal
 
-pub overflow_cast-result : goal.overflow_cast-result
-overflow_cast-result c =
-    let many = as_many c.self.inside.built_from.value.entries c.self.inside.cells.items c.self.invariant.placed in
-    let few = c.self.invariant.few in let len = c.len.ensures in omega (arith, many, few, len)
-
 pub returns : goal.returns
 returns c =
-    let many = as_many c.self.inside.built_from.value.entries c.self.inside.cells.items c.self.invariant.placed in
+    let many = as_many c.self.inside.built_from.value.entries c.self.inside.cells c.self.invariant.placed in
     let same = ap (λ (lanes : List Lane). length (cells lanes)) c.self.view_is in
-    let len = c.len.ensures in omega (arith, many, same, len)
+    let len = c.len.ensures.is in omega (arith, many, same, len)
