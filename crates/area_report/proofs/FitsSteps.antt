@@ -1,5 +1,5 @@
 -- The lines of the steps of a run fit the program's types.
-use Rattle.std.proofs.Common.{◌≡◌, inl, inr, ℕ, suc, ◌+◌, ◌*◌, ◌<◌, ◌≤◌, ◌^◌, List, [], ◌∷◌, map, length, sym, subst, arith, ℤ, pos, neg_ℤ, nat_abs, FitsSigned, w64, ◌<ℤ◌}
+use Rattle.std.proofs.Common.{◌≡◌, inl, inr, ℕ, suc, ◌+◌, ◌*◌, ◌<◌, ◌≤◌, ◌^◌, List, [], ◌∷◌, ◌++◌, map, length, sym, subst, arith, append_assoc, ℤ, pos, neg_ℤ, nat_abs, FitsSigned, w64, ◌<ℤ◌}
 use Rattle.std.specs.List.{AllByRecursion}
 use Rattle.std.proofs.lemmas.Int.{ints}
 use Rattle.spot_terms.specs.BaseSets.{SetValue}
@@ -9,10 +9,11 @@ use Rattle.spot_terms.specs.Grid.{slot}
 use Rattle.spot_terms.specs.Lists.{Includes}
 use Rattle.spot_terms.specs.Ranges.{IsStart}
 use Rattle.spot_terms.specs.Reach.{Normal, reach_number}
-use Rattle.spot_terms.specs.Report.{set_line, count_line, FitsLine, FitsPt, FitsCorners, IsReport}
+use Rattle.spot_terms.specs.Report.{disc_line, set_line, count_line, FitsLine, FitsPt, FitsCorners, IsReport}
 use Rattle.spot_terms.specs.StepLists.{IsNextList, first_set, IsFirstList, Follow, AreStepLists}
 use Rattle.spot_terms.specs.declared.lines.End.{End}
 use Rattle.spot_terms.specs.Whole.{Within}
+use Rattle.spot_terms.specs.declared.plain.Disc.{Disc}
 use Rattle.spot_terms.specs.declared.plain.Pt.{Pt}
 use Rattle.spot_terms.proofs.ListLemmas.{all_included, all_of, all_append}
 use Rattle.spot_terms.proofs.Members.{in_map, all_in_map}
@@ -24,7 +25,7 @@ use Rattle.area_laws.specs.Reaching.{IsSetInBox, IsCellIn, HasFewCorners}
 use Rattle.area_laws.proofs.Corners.{IsSmallPlane}
 use Rattle.area_laws.proofs.Reaching.{IsSmallBox, cut_in, next_few, next_in_box, first_in_box, first_few}
 use Rattle.spot_claims.specs.AreaOf.{step_lines, lines_from, FollowSoFar, AreListsSoFar}
-use Rattle.area_report.specs.Areas.{AreShort}
+use Rattle.area_report.specs.Areas.{AreShort, disc_lines}
 
 -- a cell's numbers are small
 record IsSmallCell (b : SetValue) : Type 0 where
@@ -39,6 +40,10 @@ pub record IsCourse (course : Course) : Type 0 where
   pub few : course.k ≤ 1000
   pub wide : Within (pos 100_000) (pos 100_000_000) course.w
   pub high : Within (pos 100_000) (pos 100_000_000) course.g
+
+-- the lines of the discs that are recorded up to step n fit
+abbrev pub DiscsFit : (ℕ → List Disc) → ℕ → Type 0
+DiscsFit recorded n = (i : ℕ) (d : Disc) → i ≤ n → Includes (recorded i) d → FitsLine (disc_line i d.id d.p d.r)
 
 positive : (w : ℤ) → Within (pos 100_000) (pos 100_000_000) w → pos 0 <ℤ w
 positive w h = omega (arith, ints, h.low)
@@ -114,6 +119,11 @@ module _ (course : Course) (is : IsCourse course) where
   step_fits : (i : ℕ) (sets : List SetValue) → i ≤ 100 → length sets < 2 ^ 64 → ((b : SetValue) → Includes sets b → FitsLine (set_line i b)) → IsReport (step_lines i [] sets)
   step_fits i sets h short each = all_append FitsLine (map (set_line i) sets) (count_line i (length sets) ∷ []) (all_in_map FitsLine (set_line i) sets each) ((omega (arith, h), short), tt)
 
+  with_discs : (i : ℕ) (discs : List Disc) (sets : List SetValue) → ((d : Disc) → Includes discs d → FitsLine (disc_line i d.id d.p d.r)) → IsReport (step_lines i [] sets) → IsReport (step_lines i discs sets)
+  with_discs i discs sets each rest =
+      subst IsReport (sym (append_assoc (disc_lines i discs) (map (set_line i) sets) (count_line i (length sets) ∷ [])))
+      (all_append FitsLine (disc_lines i discs) (step_lines i [] sets) (all_in_map FitsLine (λ (d : Disc). disc_line i d.id d.p d.r) discs each) rest)
+
   module _ (count : ℕ → ℕ) (Hits : ℕ → ℕ → Pt → Type 0) where
     first_small : (sets : List SetValue) (b : SetValue) → IsFirstList course count Hits sets → Includes sets b → IsSmallCell b
     first_small sets b (inl (left, one)) i = go (subst (λ (l : List SetValue). Includes l b) one i)
@@ -139,20 +149,21 @@ module _ (course : Course) (is : IsCourse course) where
             let (c, k, e) = in_map (λ (c : ℤ × SetValue). c.1) next.cuts b (subst (λ (z : List SetValue). Includes z b) next.sets_are j) in
             cell_small i b h (subst (λ (x : SetValue). IsCellIn course i x.col x.row) (sym e) (cut_in course i before (count i) (Hits i) c (positive course.w is.wide) (positive course.g is.high) (next.each c k)))
 
-    follow_fit : (n i : ℕ) (sets : List SetValue) (later : List (List SetValue)) → n ≤ 100 → FollowSoFar course count Hits n i sets later → AreShort later → IsReport (lines_from (λ j. []) (i + 1) later)
-    follow_fit n i sets [] most f short = tt
-    follow_fit n i [] (next ∷ later) most f short = absurd f
-    follow_fit n i (b ∷ sets) (next ∷ later) most f short =
-        let less = f.0 in
-        let same : suc i ≡ i + 1 = omega arith in
-        all_append FitsLine (step_lines (i + 1) [] next) (lines_from (λ j. []) (i + 1 + 1) later)
-        (subst (λ (k : ℕ). IsReport (step_lines k [] next)) same (next_fits (suc i) (b ∷ sets) next (omega (arith, less, most)) f.1 short.0))
-        (subst (λ (k : ℕ). IsReport (lines_from (λ j. []) (k + 1) later)) same (follow_fit n (suc i) next later most f.2 short.1))
+    module _ (recorded : ℕ → List Disc) (n : ℕ) (discs : DiscsFit recorded n) (most : n ≤ 100) where
+      follow_fit : (i : ℕ) (sets : List SetValue) (later : List (List SetValue)) → FollowSoFar course count Hits n i sets later → AreShort later → IsReport (lines_from recorded (i + 1) later)
+      follow_fit i sets [] f short = tt
+      follow_fit i [] (next ∷ later) f short = absurd f
+      follow_fit i (b ∷ sets) (next ∷ later) f short =
+          let less = f.0 in
+          let same : suc i ≡ i + 1 = omega arith in
+          all_append FitsLine (step_lines (i + 1) (recorded (i + 1)) next) (lines_from recorded (i + 1 + 1) later)
+          (with_discs (i + 1) (recorded (i + 1)) next (λ d j. discs (i + 1) d (omega (arith, less)) j) (subst (λ (k : ℕ). IsReport (step_lines k [] next)) same (next_fits (suc i) (b ∷ sets) next (omega (arith, less, most)) f.1 short.0)))
+          (subst (λ (k : ℕ). IsReport (lines_from recorded (k + 1) later)) same (follow_fit (suc i) next later f.2 short.1))
 
-    pub so_far_fit : (n : ℕ) (lists : List (List SetValue)) → n ≤ 100 → AreListsSoFar course count Hits n lists → AreShort lists → IsReport (lines_from (λ j. []) 0 lists)
-    so_far_fit n [] most are short = absurd are
-    so_far_fit n (first ∷ later) most are short =
-        all_append FitsLine (step_lines 0 [] first) (lines_from (λ j. []) (0 + 1) later) (first_fits first are.0 short.0) (follow_fit n 0 first later most are.1 short.1)
+      pub so_far_fit : (lists : List (List SetValue)) → AreListsSoFar course count Hits n lists → AreShort lists → IsReport (lines_from recorded 0 lists)
+      so_far_fit [] are short = absurd are
+      so_far_fit (first ∷ later) are short =
+          all_append FitsLine (step_lines 0 (recorded 0) first) (lines_from recorded (0 + 1) later) (with_discs 0 (recorded 0) first (λ d j. discs 0 d (omega arith) j) (first_fits first are.0 short.0)) (follow_fit 0 first later are.1 short.1)
 
     -- all lists are lists so far
     follow_so_far : (n i : ℕ) (sets : List SetValue) (later : List (List SetValue)) (end : End) → Follow course count Hits n i sets later end → FollowSoFar course count Hits n i sets later

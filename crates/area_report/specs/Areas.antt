@@ -1,15 +1,16 @@
 -- What is written of the steps of a run.
-use Rattle.std.specs.Prelude.{◌≡◌, ◌⊎◌, ℕ, ◌<◌, ◌^◌, List, [], ◌∷◌, ◌++◌, length, Option, Some, slice_get, Result, OnOk, OnErr}
+use Rattle.std.specs.Prelude.{◌≡◌, ◌⊎◌, ℕ, ◌<◌, ◌^◌, List, [], ◌∷◌, ◌++◌, map, length, Option, Some, slice_get, Result, OnOk, OnErr}
 use Rattle.std.specs.Io.KnownBytes.{Appends}
 use Rattle.std.specs.List.{AllByRecursion}
 use Rattle.spot_terms.specs.Avoidance.{HoldsOrStrikes}
 use Rattle.spot_terms.specs.BaseSets.{SetValue}
 use Rattle.spot_terms.specs.Causes.{HasCause, AppendsFront}
 use Rattle.spot_terms.specs.Courses.{Course}
-use Rattle.spot_terms.specs.Report.{last_line, report_text}
+use Rattle.spot_terms.specs.Report.{Line, disc_line, last_line, report_text}
 use Rattle.spot_terms.specs.StepLists.{AreStepLists}
 use Rattle.spot_terms.specs.declared.lines.End.{End}
 use Rattle.spot_terms.specs.declared.lines.End.TheVariants.{Open, Empty}
+use Rattle.spot_terms.specs.declared.plain.Disc.{Disc}
 use Rattle.spot_terms.specs.declared.plain.Pt.{Pt}
 use Rattle.spot_io.specs.declared.traits.Sink.{Ghosts as Sink}
 use Rattle.spot_claims.specs.AreaOf.{lines_from, AreListsSoFar}
@@ -32,23 +33,29 @@ IsEnd at (b ∷ sets) end = end ≡ Open
 abbrev pub AreShort : List (List SetValue) → Type 0
 AreShort lists = AllByRecursion (λ sets. length sets < 2 ^ 64) lists
 
--- the sets of each step, where no traffic is recorded
-abbrev pub text_so_far : List (List SetValue) → List ℕ
-text_so_far lists = report_text (lines_from (λ i. []) 0 lists)
+-- the lines of the recorded discs of a step
+abbrev pub disc_lines : ℕ → List Disc → List Line
+disc_lines i discs = map (λ d. disc_line i d.id d.p d.r) discs
+
+-- the recorded discs and the sets of each step
+abbrev pub text_so_far : (ℕ → List Disc) → List (List SetValue) → List ℕ
+text_so_far recorded lists = report_text (lines_from recorded 0 lists)
 
 -- and how the run ends
-abbrev pub whole_text : List (List SetValue) → End → List ℕ
-whole_text lists end = report_text (lines_from (λ i. []) 0 lists ++ last_line end ∷ [])
+abbrev pub whole_text : (ℕ → List Disc) → List (List SetValue) → End → List ℕ
+whole_text recorded lists end = report_text (lines_from recorded 0 lists ++ last_line end ∷ [])
 
 module _ (course : Course) (count : ℕ → ℕ) (Hits : ℕ → ℕ → Pt → Type 0) (n : ℕ) where
-  -- the text of all steps that are made and of the end, or of the first steps
-  abbrev pub IsStepsText : List ℕ → Type 0
-  IsStepsText text = ((lists : List (List SetValue)) × (end : End) × AreStepLists course count Hits n lists end × AreShort lists × (text ≡ whole_text lists end))
-      ⊎ ((lists : List (List SetValue)) × AreListsSoFar course count Hits n lists × AreShort lists × (text ≡ text_so_far lists))
-
   -- each list holds each motion that goes on to its step, or the motion was at a piece by then
   abbrev pub AllHold : List (List SetValue) → Type 0
   AllHold lists = (i : ℕ) (sets : List SetValue) → slice_get lists i ≡ Some sets → HoldsOrStrikes course count Hits i sets
+
+-- over the discs that are recorded for each step
+module _ (recorded : ℕ → List Disc) (course : Course) (count : ℕ → ℕ) (Hits : ℕ → ℕ → Pt → Type 0) (n : ℕ) where
+  -- the text of all steps that are made and of the end, or of the first steps
+  abbrev pub IsStepsText : List ℕ → Type 0
+  IsStepsText text = ((lists : List (List SetValue)) × (end : End) × AreStepLists course count Hits n lists end × AreShort lists × (text ≡ whole_text recorded lists end))
+      ⊎ ((lists : List (List SetValue)) × AreListsSoFar course count Hits n lists × AreShort lists × (text ≡ text_so_far recorded lists))
 
   -- the text of the steps was appended, and of the end at which the run stands
   pub record HasWrittenSteps (before after : Option (List ℕ)) (at : ℕ) (sets : List SetValue) : Type 0 where
@@ -56,9 +63,9 @@ module _ (course : Course) (count : ℕ → ℕ) (Hits : ℕ → ℕ → Pt → 
     pub end : End
     pub lists_are : AreStepLists course count Hits n lists end
     pub short : AreShort lists
-    pub hold : AllHold lists
+    pub hold : AllHold course count Hits n lists
     pub end_is : IsEnd at sets end
-    pub appends : Appends before after (whole_text lists end)
+    pub appends : Appends before after (whole_text recorded lists end)
 
   -- a front of the text of the steps was, or of the first steps
   abbrev pub HasBegunSteps : Option (List ℕ) → Option (List ℕ) → Type 0

@@ -1,22 +1,34 @@
 //! The lines of a run of the drivable area. Nothing here takes memory.
 
-ghost use Rattle.std.specs.Prelude.{◌≡◌, ◌↔◌, ℕ, ◌<◌, ◌^◌, List, [], length, map, IsTrue};
+ghost use Rattle.std.specs.Prelude.{◌≡◌, ◌↔◌, ℕ, List, [], length, map, IsTrue};
 ghost use Rattle.spot_terms.specs.Report.{report_text};
 ghost use Rattle.spot_io.specs.Writes.{WritesText};
 ghost use Rattle.base_sets.specs.Values.{value_of};
 ghost use Rattle.area_run.specs.Plans.{course_of};
 ghost use Rattle.spot_claims.specs.AreaOf.{step_lines};
-ghost use Rattle.area_report.specs.Areas.{GoesOn, IsEnd, IsStepsText, WritesSteps};
+ghost use Rattle.area_report.specs.Areas.{disc_lines, GoesOn, IsEnd, IsStepsText, WritesSteps};
 
+use crate::recording::Recording;
 use area_run::{AreaRun, Verdict};
 use base_sets::BaseSet;
 use carve::Occupied;
 use spot_io::{Sink, SinkFault};
-use spot_terms::End;
-use text_report::{write_count, write_end, write_set};
+use spot_terms::{Disc, End};
+use text_report::{write_count, write_disc, write_end, write_set};
+
+// The lines of the discs of a step.
+fn write_discs<K: Sink>(sink: &mut K, step: u32, discs: &[Disc]) -> Result<(), SinkFault>
+    requires { K.takes sink.old (length (report_text (disc_lines step discs.now))) }
+    ensures { WritesText K.Sink sink.old sink.new (report_text (disc_lines step discs.now)) result }
+{
+    for d in discs {
+        write_disc(sink, step, d.id, d.p, d.r)?;
+    }
+    Ok(())
+}
 
 // The lines of the sets of a step, and how many they are.
-fn write_step<K: Sink>(sink: &mut K, step: u32, sets: &[BaseSet]) -> Result<(), SinkFault>
+fn write_sets<K: Sink>(sink: &mut K, step: u32, sets: &[BaseSet]) -> Result<(), SinkFault>
     requires { K.takes sink.old (length (report_text (step_lines step [] (map value_of sets.now)))) }
     ensures { WritesText K.Sink sink.old sink.new (report_text (step_lines step [] (map value_of sets.now))) result }
 {
@@ -26,11 +38,18 @@ fn write_step<K: Sink>(sink: &mut K, step: u32, sets: &[BaseSet]) -> Result<(), 
     write_count(sink, step, sets.len() as u64)
 }
 
-// A list has fewer sets than can be counted.
-fn can_be_counted(sets: &[BaseSet])
-    ensures { length sets.now < 2 ^ 64 }
+// The lines of a step: its recorded discs, its sets, and how many they are.
+fn write_step<K: Sink>(
+    sink: &mut K,
+    step: u32,
+    discs: &[Disc],
+    sets: &[BaseSet],
+) -> Result<(), SinkFault>
+    requires { K.takes sink.old (length (report_text (step_lines step discs.now (map value_of sets.now)))) }
+    ensures { WritesText K.Sink sink.old sink.new (report_text (step_lines step discs.now (map value_of sets.now))) result }
 {
-    let _count = sets.len();
+    write_discs(sink, step, discs)?;
+    write_sets(sink, step, sets)
 }
 
 // Whether a step is to be made: the run has sets, and steps are left.
@@ -53,25 +72,24 @@ fn end_of<O: Occupied>(run: &AreaRun<'_, O>) -> End
     }
 }
 
-/// Writes the sets of each step of a run that stands at its first one, up to the last step or to the first one without
-/// sets, and how it ends. The lines of a step leave before the next step is computed. At `SinkFault` the sink's count of
-/// faults rose in this call, and a front of these lines was appended.
-pub fn write_area<O: Occupied, K: Sink>(
+/// Writes the recorded discs and the sets of each step of a run that stands at its first one, up to the last step or to the
+/// first one without sets, and how it ends. The lines of a step leave before the next step is computed. At `SinkFault` the
+/// sink's count of faults rose in this call, and a front of these lines was appended.
+pub fn write_area<O: Occupied, R: Recording, K: Sink>(
     run: &mut AreaRun<'_, O>,
+    recording: &R,
     sink: &mut K,
 ) -> Result<(), SinkFault>
     requires first { run.old.at ≡ 0 }
-    requires room { (text : List ℕ) → IsStepsText (course_of run.old.plan) (O.count run.old.o) (O.hits run.old.o) run.old.steps text → K.takes sink.old (length text) }
-    ensures { WritesSteps (course_of run.old.plan) (O.count run.old.o) (O.hits run.old.o) run.old.steps K.Sink sink.old sink.new run.new.at run.new.sets result }
+    requires room { (text : List ℕ) → IsStepsText (R.recorded recording.now) (course_of run.old.plan) (O.count run.old.o) (O.hits run.old.o) run.old.steps text → K.takes sink.old (length text) }
+    ensures { WritesSteps (R.recorded recording.now) (course_of run.old.plan) (O.count run.old.o) (O.hits run.old.o) run.old.steps K.Sink sink.old sink.new run.new.at run.new.sets result }
 {
-    let sets = run.sets();
-    can_be_counted(sets);
-    write_step(sink, run.at(), sets)?;
+    let step = run.at();
+    write_step(sink, step, recording.discs(step), run.sets())?;
     while goes_on(run) {
         run.step();
-        let sets = run.sets();
-        can_be_counted(sets);
-        write_step(sink, run.at(), sets)?;
+        let step = run.at();
+        write_step(sink, step, recording.discs(step), run.sets())?;
     }
     write_end(sink, end_of(run))
 }

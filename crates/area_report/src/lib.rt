@@ -4,9 +4,11 @@
 
 mod area;
 mod problem;
+mod recording;
 
 pub use area::write_area;
 pub use problem::ego_of;
+pub use recording::{Recording, Unrecorded};
 
 #[cfg(test)]
 mod tests;

@@ -114,7 +114,7 @@ fn lines_of_a_step_are_written_before_the_next_is_computed(rt: HostRuntime) -> R
         last: None,
     };
     let mut run = AreaRun::open(rt.alloc(), &beside, &REST, &BOUNDS, &GRID, 100, 5)?;
-    write_area(&mut run, &mut sink)?;
+    write_area(&mut run, &Unrecorded, &mut sink)?;
     assert!(rt; sink.inner.bytes.as_slice().starts_with(FIRST_STEP));
     assert!(rt;
         sink.inner
@@ -135,7 +135,7 @@ fn a_fault_leaves_a_front_of_the_steps(rt: HostRuntime) -> Result<(), Fail> {
     };
     let mut sink = mem_sink(rt.alloc(), 100_000, 16, &[10])?;
     let mut run = AreaRun::open(rt.alloc(), &beside, &REST, &BOUNDS, &GRID, 100, 1)?;
-    assert!(rt; write_area(&mut run, &mut sink).is_err());
+    assert!(rt; write_area(&mut run, &Unrecorded, &mut sink).is_err());
     assert!(rt; sink.bytes.len() > FIRST_STEP.len());
     assert!(rt; sink.bytes.as_slice().starts_with(FIRST_STEP));
     Ok(())

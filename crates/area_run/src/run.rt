@@ -54,7 +54,7 @@ impl<'o, O: Occupied> Model for AreaRun<'o, O> {
 }
 
 impl<'o, O: Occupied> AreaRun<'o, O> {
-    ghost use Rattle.std.specs.Prelude.{◌≡◌, ◌+◌, ◌<◌, ◌≤◌, [], map, IfErr, IfOk};
+    ghost use Rattle.std.specs.Prelude.{◌≡◌, ◌+◌, ◌<◌, ◌≤◌, ◌^◌, [], length, map, IfErr, IfOk};
     ghost use Rattle.spot_terms.specs.Avoidance.{HoldsOrStrikes};
     ghost use Rattle.spot_terms.specs.EgoMotions.{FitsBound};
     ghost use Rattle.spot_terms.specs.RowBoxes.{IsWithinArea};
@@ -166,12 +166,13 @@ impl<'o, O: Occupied> AreaRun<'o, O> {
         std::mem::swap(&mut self.sets, &mut self.next);
     }
 
-    /// The sets of the step, in order. They are the list of the step, and each motion that goes on to it is held by one of
-    /// them, or was at a piece by then.
+    /// The sets of the step, in order, fewer than 2^64. They are the list of the step, and each motion that goes on to it is
+    /// held by one of them, or was at a piece by then.
     pub fn sets(&self) -> &[BaseSet]
         ensures sets { map value_of result.now ≡ self.now.sets }
         ensures list { IsStepList (course_of self.now.plan) (O.count self.now.o) (O.hits self.now.o) self.now.at self.now.sets }
         ensures holds { HoldsOrStrikes (course_of self.now.plan) (O.count self.now.o) (O.hits self.now.o) self.now.at self.now.sets }
+        ensures few { length result.now < 2 ^ 64 }
     {
         self.sets.list()
     }

@@ -96,12 +96,14 @@ impl Recorded {
         Ok(Recorded { steps: all })
     }
 
-    /// The discs of a step, in order.
+    /// The discs of a step, in order; after the last step there are none.
     pub fn discs(&self, step: u32) -> &[Disc]
-        requires { step < length self.now }
         ensures { result.now ≡ discs_at self.now step }
     {
-        self.steps[step as usize].list()
+        match self.steps.get(step as usize) {
+            Some(discs) => discs.list(),
+            None => &[],
+        }
     }
 
     // A disc of a step.

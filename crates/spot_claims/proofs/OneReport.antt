@@ -37,7 +37,7 @@ module _ (s : Scenario) (c : Command) where
       let same : os ≡ other = occupants_one os other a b in
       f i within ∙ ap (λ (x : List Occupant). predicted_pieces s x i) same ∙ sym (g i within)
 
-  replay_same : (ps qs : ℕ → List Piece) → c.task ≡ Replay → ArePieces s c ps → ArePieces s c qs → (i : ℕ) → i ≤ c.steps → ps i ≡ qs i
+  pub replay_same : (ps qs : ℕ → List Piece) → c.task ≡ Replay → ArePieces s c ps → ArePieces s c qs → (i : ℕ) → i ≤ c.steps → ps i ≡ qs i
   replay_same ps qs e h k i within = replay_pieces ps e h i within ∙ sym (replay_pieces qs e k i within)
 
   problem_one : (p q : Problem) (ps qs : ℕ → List Piece) (xs ys : List (List SetValue)) (d e : End) → IsRun s c p ps xs d → IsRun s c q qs ys e → p ≡ q

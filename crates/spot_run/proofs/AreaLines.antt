@@ -1,20 +1,16 @@
 -- The lines of an area: they are of no obstacle, and fit the program's types.
-use Rattle.std.proofs.Common.{◌≡◌, inl, inr, ℕ, ◌+◌, ◌<◌, ◌≤◌, ◌^◌, List, [], ◌∷◌, ◌++◌, map, length, sym, subst, arith, ℤ, pos, ◌≤ℤ◌, nat_abs, FitsSigned, w64}
+use Rattle.std.proofs.Common.{inl, inr, ℕ, ◌+◌, ◌<◌, ◌≤◌, ◌^◌, List, [], ◌∷◌, ◌++◌, map, length, sym, subst, arith, ℤ, pos, nat_abs, FitsSigned, w64}
 use Rattle.std.proofs.lemmas.Int.{ints}
 use Rattle.spot_terms.specs.BaseSets.{SetValue}
-use Rattle.spot_terms.specs.Courses.{Course, start_of}
+use Rattle.spot_terms.specs.Courses.{Course}
 use Rattle.spot_terms.specs.EgoMotions.{FitsBound}
-use Rattle.spot_terms.specs.Lists.{Includes}
-use Rattle.spot_terms.specs.Pieces.{Hits}
-use Rattle.spot_terms.specs.Ranges.{IsProblemInRange, IsStart}
-use Rattle.spot_terms.specs.Report.{Line, EgoValue, ego_line, set_line, count_line, last_line, FitsLine, FitsPt, FitsBox, FitsEnd, IsReport}
+use Rattle.spot_terms.specs.Report.{Line, EgoValue, ego_line, set_line, count_line, last_line, FitsLine, FitsEnd, IsReport}
 use Rattle.spot_terms.specs.StepLists.{AreStepLists}
 use Rattle.spot_terms.specs.Whole.{Within}
 use Rattle.spot_terms.specs.declared.lines.End.{End}
 use Rattle.spot_terms.specs.declared.lines.End.TheVariants as end
 use Rattle.spot_terms.specs.declared.plain.Disc.{Disc}
 use Rattle.spot_terms.specs.declared.plain.Pt.{Pt}
-use Rattle.spot_terms.specs.declared.plain.VBox.{VBox}
 use Rattle.spot_terms.proofs.ListLemmas.{includes_either, all_append}
 use Rattle.spot_terms.proofs.Members.{in_map}
 use Rattle.base_sets.specs.Values.{AreBounds, AreTicks, IsEgoStart, IsGrid, course_with}
@@ -23,7 +19,7 @@ use Rattle.text_report.specs.declared.ego_line.EgoLine.{EgoLine}
 use Rattle.spot_claims.specs.AreaOf.{step_lines, lines_from, AreListsSoFar}
 use Rattle.spot_claims.proofs.AreaCovers.{ends_within}
 use Rattle.area_report.specs.Areas.{AreShort}
-use Rattle.area_report.proofs.FitsSteps.{IsCourse, so_far_fit, lists_so_far}
+use Rattle.area_report.proofs.FitsSteps.{IsCourse, DiscsFit, so_far_fit, lists_so_far}
 use Rattle.spot_run.proofs.Alone.{IsOther, AreOthers}
 
 -- ---- of no obstacle
@@ -95,10 +91,11 @@ module _ (course : Course) (is : IsCourse course) (count : ℕ → ℕ) (Hits : 
   end_fits lists end.Open are = tt
   end_fits lists (end.Empty i) are = short_number i n (ends_within course count Hits n lists i are) few
 
-  pub begun_fits : (e : EgoValue) (lists : List (List SetValue)) → FitsLine (ego_line e) → AreListsSoFar course count Hits n lists → AreShort lists → IsReport (ego_line e ∷ lines_from (λ j. []) 0 lists)
-  begun_fits e lists ego are short = (ego, so_far_fit course is count Hits n lists few are short)
+  module _ (recorded : ℕ → List Disc) (discs : DiscsFit recorded n) where
+    pub begun_fits : (e : EgoValue) (lists : List (List SetValue)) → FitsLine (ego_line e) → AreListsSoFar course count Hits n lists → AreShort lists → IsReport (ego_line e ∷ lines_from recorded 0 lists)
+    begun_fits e lists ego are short = (ego, so_far_fit course is count Hits recorded n discs few lists are short)
 
-  pub all_fits : (e : EgoValue) (lists : List (List SetValue)) (ends : End) → FitsLine (ego_line e) → AreStepLists course count Hits n lists ends → AreShort lists
-      → IsReport (ego_line e ∷ lines_from (λ j. []) 0 lists ++ last_line ends ∷ [])
-  all_fits e lists ends ego are short =
-      (ego, all_append FitsLine (lines_from (λ j. []) 0 lists) (last_line ends ∷ []) (so_far_fit course is count Hits n lists few (lists_so_far course is count Hits n lists ends are) short) (end_fits lists ends are, tt))
+    pub all_fits : (e : EgoValue) (lists : List (List SetValue)) (ends : End) → FitsLine (ego_line e) → AreStepLists course count Hits n lists ends → AreShort lists
+        → IsReport (ego_line e ∷ lines_from recorded 0 lists ++ last_line ends ∷ [])
+    all_fits e lists ends ego are short =
+        (ego, all_append FitsLine (lines_from recorded 0 lists) (last_line ends ∷ []) (so_far_fit course is count Hits recorded n discs few lists (lists_so_far course is count Hits n lists ends are) short) (end_fits lists ends are, tt))

@@ -1,24 +1,21 @@
 -- The area of a command: that all stages are passed, and what its report is and claims.
-use Rattle.std.proofs.Common.{◌≡◌, ◌∙◌, inl, inr, ℕ, ◌≤◌, List, [], ◌∷◌, ◌++◌, length, refl, sym, ap, ap₂, subst, append_assoc}
-use Rattle.std.specs.Prelude.{slice_get}
+use Rattle.std.proofs.Common.{◌≡◌, ◌∙◌, inl, inr, ℕ, ◌≤◌, List, [], ◌∷◌, ◌++◌, length, Option, refl, sym, ap, ap₂, subst, append_assoc, arith}
 use Rattle.spot_terms.specs.BaseSets.{SetValue}
-use Rattle.spot_terms.specs.Courses.{Course, box_at}
+use Rattle.spot_terms.specs.Courses.{Course}
 use Rattle.spot_terms.specs.Ids.{HaveUniqueIds}
-use Rattle.spot_terms.specs.Pieces.{Piece, Hits, range_of}
+use Rattle.spot_terms.specs.Pieces.{Hits}
 use Rattle.spot_terms.specs.Ranges.{IsCommandInRange, IsInRange}
 use Rattle.spot_terms.specs.Report.{Line, EgoValue, ego_line, last_line, report_text, FitsLine, IsReport}
-use Rattle.spot_terms.specs.RowBoxes.{IsWithinArea, row_boxes_in}
+use Rattle.spot_terms.specs.RowBoxes.{IsWithinArea}
 use Rattle.spot_terms.specs.StepLists.{AreStepLists}
 use Rattle.spot_terms.specs.Tasks.{PredictsTraffic, FindsArea}
-use Rattle.spot_terms.specs.declared.limits.TheConstants.{MOST_ROW_BOXES}
 use Rattle.spot_terms.specs.declared.command.Command.{Command}
 use Rattle.spot_terms.specs.declared.command.Task.{Task}
 use Rattle.spot_terms.specs.declared.command.Task.TheVariants.{Area}
 use Rattle.spot_terms.specs.declared.lines.End.{End}
 use Rattle.spot_terms.specs.declared.lines.Mode.TheVariants as mode
-use Rattle.spot_terms.specs.declared.scenario.Problem.{Problem}
 use Rattle.spot_terms.specs.declared.scenario.Scenario.{Scenario}
-use Rattle.spot_terms.proofs.Unique.{some_one}
+use Rattle.spot_terms.specs.declared.status.Status.{Status}
 use Rattle.lanelets.specs.Buildable.{AreBuildable}
 use Rattle.base_sets.specs.Values.{course_with}
 use Rattle.participants.specs.Pieces.{pieces_at}
@@ -26,27 +23,28 @@ use Rattle.participants.specs.Predictions.{Occupancies}
 use Rattle.text_report.specs.Values.{ego_value}
 use Rattle.text_report.specs.declared.ego_line.EgoLine.{EgoLine}
 use Rattle.text_report.proofs.ReportLines.{report_text-append}
-use Rattle.spot_claims.specs.AreaOf.{ArePieces, IsWithinAreaOver, IsRun, IsRunSoFar, lines_from, area_lines, lines_so_far, IsAreaReport, IsAreaBeginning, AreListsSoFar}
+use Rattle.spot_claims.specs.AreaOf.{ArePieces, lines_from, area_lines, lines_so_far, IsAreaReport, IsAreaBeginning, AreListsSoFar}
 use Rattle.spot_claims.specs.Headline.{ClaimsOf}
 use Rattle.spot_claims.specs.Outcomes.{PassesAll}
-use Rattle.spot_claims.specs.Outputs.{IsOutputOf, IsOutput, IsBeginningOf, IsOutputSoFar}
-use Rattle.spot_claims.specs.Problems.{chosen, IsChosen, course_of, ego_of}
-use Rattle.spot_claims.specs.Stages.{PassesToNetwork, PassesToArea}
+use Rattle.spot_claims.specs.Outputs.{IsOutputOf, IsOutput, IsBeginningOf, IsOutputSoFar, status_of}
+use Rattle.spot_claims.specs.Problems.{course_of, ego_of}
+use Rattle.spot_claims.specs.Stages.{PassesToArea}
 use Rattle.spot_claims.proofs.AreaCovers.{area_covers}
 use Rattle.spot_claims.proofs.OneReport.{area_same}
 use Rattle.area_report.specs.Areas.{AreShort, text_so_far, whole_text, IsStepsText, AllHold}
 use Rattle.area_report.specs.Egos.{HasEgo}
 use Rattle.area_report.proofs.Egos.{chosen_in_range, fits_of}
-use Rattle.area_report.proofs.FitsSteps.{IsCourse}
+use Rattle.area_report.proofs.FitsSteps.{IsCourse, DiscsFit}
 use Rattle.spot_run.specs.Areas.{count_at, hits_at, range_at, CanOpen, opening_text}
 use Rattle.spot_run.specs.Lines.{traffic_lines, opening_lines, report_lines}
-use Rattle.spot_run.specs.Tells.{TakesFor, ClaimsIn, HasSomePieces}
-use Rattle.spot_run.specs.Writes.{IsPredicted}
+use Rattle.spot_run.specs.Tells.{ClaimsIn, HasSomePieces, Tells}
+use Rattle.spot_run.specs.Writes.{IsPredicted, IsPastLimit}
 use Rattle.spot_run.proofs.AreaLines.{area_others, ego_fits, is_course, begun_fits, all_fits}
 use Rattle.spot_run.proofs.Covers.{traffic_covers}
 use Rattle.spot_run.proofs.Fits.{fits_report}
 use Rattle.spot_run.proofs.Limits.{pieces_area}
-use Rattle.spot_run.proofs.Predictions.{within_traffic}
+use Rattle.spot_run.proofs.AreaTells.{IsOver, passes_problem, passes_over}
+use Rattle.spot_run.proofs.Predictions.{within_traffic, limit_tells}
 use Rattle.spot_run.proofs.Reports.{is_traffic}
 
 -- ---- of the task that finds the area
@@ -57,16 +55,13 @@ area_finds c task = subst FindsArea (sym task) tt
 pub area_predicts : (c : Command) → c.task ≡ Area → PredictsTraffic c.task
 area_predicts c task = subst PredictsTraffic (sym task) tt
 
-pub passes_problem : (s : Scenario) (c : Command) (e : EgoLine) → HasEgo s c e → PassesToNetwork s c
-passes_problem s c e ego = record { problem = λ finds. (ego.problem, ego.is_chosen, ego.at_start, ego.slow); built = tt }
-
 -- ---- one text behind another
 
-two_texts : (a b : List Line) (x : Line) → report_text (a ++ x ∷ []) ++ report_text b ≡ report_text (a ++ x ∷ b)
+pub two_texts : (a b : List Line) (x : Line) → report_text (a ++ x ∷ []) ++ report_text b ≡ report_text (a ++ x ∷ b)
 two_texts a b x = sym (report_text-append (a ++ x ∷ []) b) ∙ ap report_text (append_assoc a (x ∷ []) b)
 
 -- the line of an ego by its problem's id and its course
-abbrev line_value : ℕ → Course → EgoValue
+abbrev pub line_value : ℕ → Course → EgoValue
 line_value id course = record { problem = id; a = course.a; v = course.v; w = course.w; g = course.g; p = course.p; b = course.b }
 
 -- ---- the ego of the command, and the prediction of the scenario
@@ -85,24 +80,8 @@ module _ (s : Scenario) (c : Command) (task : c.task ≡ Area) (e : EgoLine) (o 
   pub passes_to_area : PassesToArea s c ego.problem
   passes_to_area = record { finds = area_finds c task; passing = passes_problem s c e ego; chosen = ego.is_chosen; traffic = λ predicts. within_traffic s c o predicted }
 
-  -- what is within the limits over these pieces is so over all pieces of the scenario
-  within_over : (course : Course) (pieces : ℕ → List Piece) → ArePieces s c pieces → IsWithinArea course (count_at o) (range_at o) c.steps → IsWithinAreaOver course c.steps pieces
-  within_over course pieces are h = record {
-    narrow = h.narrow;
-    few = λ i within. subst (λ (ps : List Piece). row_boxes_in course.w course.g (box_at course i) (length ps) (range_of ps) ≤ MOST_ROW_BOXES) (area_same s c (pieces_at o) pieces task pieces_are are i within) (h.few i within);
-  }
-
-  pub passes_all : IsWithinArea (course_with e.s e.e e.grid s.step) (count_at o) (range_at o) c.steps → PassesAll s c
-  passes_all h = record {
-    passing = passes_problem s c e ego;
-    within = record {
-      traffic = λ predicts. within_traffic s c o predicted;
-      area = λ finds problem pieces is are.
-          let one : ego.problem ≡ problem = some_one (chosen c.problem s.problems) ego.problem problem ego.is_chosen is in
-          subst (λ (p : Problem). IsWithinAreaOver (course_of s c p) c.steps pieces) one
-          (within_over (course_of s c ego.problem) pieces are (subst (λ (course : Course). IsWithinArea course (count_at o) (range_at o) c.steps) course_is h));
-    };
-  }
+  passes_all : IsWithinArea (course_with e.s e.e e.grid s.step) (count_at o) (range_at o) c.steps → PassesAll s c
+  passes_all h = passes_over s c e ego (pieces_at o) (λ pieces are. area_same s c (pieces_at o) pieces task pieces_are are) (λ predicts. within_traffic s c o predicted) h
 
   -- ---- the report
 
@@ -112,8 +91,11 @@ module _ (s : Scenario) (c : Command) (task : c.task ≡ Area) (e : EgoLine) (o 
   same_ego : ego_value e ≡ ego_of ego.problem (course_of s c ego.problem)
   same_ego = ap₂ line_value ego.is.problem course_is
 
+  no_discs : DiscsFit (λ i. []) c.steps
+  no_discs i d within among = absurd among
+
   module _ (range : IsInRange s) (lanes : AreBuildable s.lanelets.entries) (few : IsCommandInRange c) where
-    pub can_open : CanOpen s o e c.steps
+    pub can_open : CanOpen s o.steps 40_000_000_000_000 e c.steps
     can_open = record {
       start = ego.is.start;
       bounds = ego.is.bounds;
@@ -121,7 +103,8 @@ module _ (s : Scenario) (c : Command) (task : c.task ≡ Area) (e : EgoLine) (o 
       ticks = (range.step_low, range.step_high);
       fits = fits_of s c ego.problem e ego.is ego.slow;
       few = few.steps.1;
-      horizon = predicted.is.horizon;
+      last_in = omega (arith, predicted.is.horizon);
+      far_out = omega arith;
     }
 
     good_course : IsCourse (course_of s c ego.problem)
@@ -173,12 +156,12 @@ module _ (s : Scenario) (c : Command) (task : c.task ≡ Area) (e : EgoLine) (o 
 
     -- ---- its text
 
-    whole_is : (lists : List (List SetValue)) (ends : End) → opening_text s c.steps o e ++ whole_text lists ends ≡ report_text (all_lines lists ends)
+    whole_is : (lists : List (List SetValue)) (ends : End) → opening_text s c.steps o e ++ whole_text (λ i. []) lists ends ≡ report_text (all_lines lists ends)
     whole_is lists ends =
         two_texts (opening_lines mode.Area s.step c.steps s.movers o) (lines_from (λ i. []) 0 lists ++ last_line ends ∷ []) (ego_line (ego_value e))
         ∙ ap (λ (x : EgoValue). report_text (opening_lines mode.Area s.step c.steps s.movers o ++ ego_line x ∷ (lines_from (λ i. []) 0 lists ++ last_line ends ∷ []))) same_ego
 
-    first_is : (lists : List (List SetValue)) → opening_text s c.steps o e ++ text_so_far lists ≡ report_text (first_lines lists)
+    first_is : (lists : List (List SetValue)) → opening_text s c.steps o e ++ text_so_far (λ i. []) lists ≡ report_text (first_lines lists)
     first_is lists =
         two_texts (opening_lines mode.Area s.step c.steps s.movers o) (lines_from (λ i. []) 0 lists) (ego_line (ego_value e))
         ∙ ap (λ (x : EgoValue). report_text (opening_lines mode.Area s.step c.steps s.movers o ++ ego_line x ∷ lines_from (λ i. []) 0 lists)) same_ego
@@ -186,10 +169,10 @@ module _ (s : Scenario) (c : Command) (task : c.task ≡ Area) (e : EgoLine) (o 
     -- ---- the output
 
     pub whole_output : (lists : List (List SetValue)) (ends : End) → AreStepLists (course_with e.s e.e e.grid s.step) (count_at o) (hits_at o) c.steps lists ends → AreShort lists
-        → IsOutput s c (opening_text s c.steps o e ++ whole_text lists ends) ends
+        → IsOutput s c (opening_text s c.steps o e ++ whole_text (λ i. []) lists ends) ends
     whole_output lists ends are short =
         let over : AreLists lists ends = over_course (λ course. AreStepLists course (count_at o) (hits_at o) c.steps lists ends) are in
-        subst (λ (t : Task). IsOutputOf t s c (opening_text s c.steps o e ++ whole_text lists ends) ends) (sym task) (record {
+        subst (λ (t : Task). IsOutputOf t s c (opening_text s c.steps o e ++ whole_text (λ i. []) lists ends) ends) (sym task) (record {
           lines = all_lines lists ends;
           report = is_report lists ends over;
           fits = fits_all lists ends over short;
@@ -198,29 +181,29 @@ module _ (s : Scenario) (c : Command) (task : c.task ≡ Area) (e : EgoLine) (o 
       where
         fits_all : (lists : List (List SetValue)) (ends : End) → AreLists lists ends → AreShort lists → IsReport (all_lines lists ends)
         fits_all lists ends over short = fits_report mode.Area s c.steps o (more_lines lists ends) range lanes few.steps.1 predicted
-            (all_fits (course_of s c ego.problem) good_course (λ i. length (pieces_at o i)) (λ i. Hits (pieces_at o i)) c.steps few.steps.1 (ego_of ego.problem (course_of s c ego.problem)) lists ends good_ego over short)
+            (all_fits (course_of s c ego.problem) good_course (λ i. length (pieces_at o i)) (λ i. Hits (pieces_at o i)) c.steps few.steps.1 (λ i. []) no_discs (ego_of ego.problem (course_of s c ego.problem)) lists ends good_ego over short)
 
     first_output : (lists : List (List SetValue)) → AreListsSoFar (course_with e.s e.e e.grid s.step) (count_at o) (hits_at o) c.steps lists → AreShort lists
-        → IsBeginningOf c.task s c (opening_text s c.steps o e ++ text_so_far lists)
+        → IsBeginningOf c.task s c (opening_text s c.steps o e ++ text_so_far (λ i. []) lists)
     first_output lists are short =
         let over : AreFirst lists = over_course (λ course. AreListsSoFar course (count_at o) (hits_at o) c.steps lists) are in
-        subst (λ (t : Task). IsBeginningOf t s c (opening_text s c.steps o e ++ text_so_far lists)) (sym task) (record {
+        subst (λ (t : Task). IsBeginningOf t s c (opening_text s c.steps o e ++ text_so_far (λ i. []) lists)) (sym task) (record {
           lines = first_lines lists;
           report = is_beginning lists over;
           fits = fits_report mode.Area s c.steps o (lines_so_far ego.problem (course_of s c ego.problem) (λ i. []) lists) range lanes few.steps.1 predicted
-              (begun_fits (course_of s c ego.problem) good_course (λ i. length (pieces_at o i)) (λ i. Hits (pieces_at o i)) c.steps few.steps.1 (ego_of ego.problem (course_of s c ego.problem)) lists good_ego over short);
+              (begun_fits (course_of s c ego.problem) good_course (λ i. length (pieces_at o i)) (λ i. Hits (pieces_at o i)) c.steps few.steps.1 (λ i. []) no_discs (ego_of ego.problem (course_of s c ego.problem)) lists good_ego over short);
           text_is = first_is lists;
         })
 
     -- the text of all steps, or of the first ones, is the output or a beginning of it
-    pub output_so_far : (text : List ℕ) → IsStepsText (course_with e.s e.e e.grid s.step) (count_at o) (hits_at o) c.steps text → IsOutputSoFar s c (opening_text s c.steps o e ++ text)
+    pub output_so_far : (text : List ℕ) → IsStepsText (λ i. []) (course_with e.s e.e e.grid s.step) (count_at o) (hits_at o) c.steps text → IsOutputSoFar s c (opening_text s c.steps o e ++ text)
     output_so_far text (inl (lists, ends, are, short, is)) = subst (λ (x : List ℕ). IsOutputSoFar s c (opening_text s c.steps o e ++ x)) (sym is) (inl (ends, whole_output lists ends are short))
     output_so_far text (inr (lists, are, short, is)) = subst (λ (x : List ℕ). IsOutputSoFar s c (opening_text s c.steps o e ++ x)) (sym is) (inr (first_output lists are short))
 
     -- ---- its claims
 
     pub claims_in : (lists : List (List SetValue)) (ends : End) → HaveUniqueIds s → AreStepLists (course_with e.s e.e e.grid s.step) (count_at o) (hits_at o) c.steps lists ends
-        → AllHold (course_with e.s e.e e.grid s.step) (count_at o) (hits_at o) c.steps lists → ClaimsIn s c (opening_text s c.steps o e ++ whole_text lists ends)
+        → AllHold (course_with e.s e.e e.grid s.step) (count_at o) (hits_at o) c.steps lists → ClaimsIn s c (opening_text s c.steps o e ++ whole_text (λ i. []) lists ends)
     claims_in lists ends ids are hold =
         let over : AreLists lists ends = over_course (λ course. AreStepLists course (count_at o) (hits_at o) c.steps lists ends) are in
         record {
@@ -232,3 +215,18 @@ module _ (s : Scenario) (c : Command) (task : c.task ≡ Area) (e : EgoLine) (o 
             area_covers s c (all_lines lists ends) ends (is_report lists ends over) task few.steps.0 ego.is.velocities (over_course (λ course. AllHold course (count_at o) (hits_at o) c.steps lists) hold),
           );
         }
+
+    pub area_over : HaveUniqueIds s → IsOver s c e ego (opening_text s c.steps o e) (λ i. []) (pieces_at o)
+    area_over ids = record {
+      pieces_are = pieces_are;
+      passing = passes_to_area;
+      passes = passes_all;
+      so_far = output_so_far;
+      whole = whole_output;
+      claims = λ lists ends are hold. claims_in lists ends ids are hold;
+      status = λ ends. ap (λ (t : Task). status_of t ends) task;
+    }
+
+-- of traffic that passes a limit
+pub traffic_tells : (s : Scenario) (c : Command) → c.task ≡ Area → (e : EgoLine) (before after : Option (List ℕ)) (status : Status) → HasEgo s c e → IsPastLimit s c.steps status → Tells s c before after status
+traffic_tells s c task e before after status ego h = limit_tells s c before after status (passes_problem s c e ego) (area_predicts c task) h

@@ -1,35 +1,32 @@
 -- What the area of a scenario that was found, or not, tells of its command.
-use Rattle.std.proofs.Common.{◌≡◌, ◌∙◌, inl, inr, ℕ, zero, suc, ◌≤◌, ◌<◌, ◌^◌, List, [], ◌∷◌, ◌++◌, length, Option, Result, Ok, Err, refl, sym, ap, subst, append-nil, arith, ℤ}
+use Rattle.std.proofs.Common.{◌≡◌, ◌∙◌, inl, inr, ℕ, ◌≤◌, ◌<◌, ◌^◌, List, [], ◌∷◌, ◌++◌, length, Option, Result, Ok, Err, refl, sym, ap, subst, append-nil, arith, ℤ}
 use Rattle.std.specs.Result.{IsErr}
 use Rattle.std.specs.Io.KnownBytes.{Appends}
 use Rattle.std.proofs.lemmas.List.{length-append}
 use Rattle.spot_terms.specs.BaseSets.{SetValue}
 use Rattle.spot_terms.specs.Causes.{AppendsFront}
-use Rattle.spot_terms.specs.Courses.{Course}
-use Rattle.spot_terms.specs.Ids.{HaveUniqueIds}
-use Rattle.spot_terms.specs.Ranges.{IsCommandInRange, IsInRange}
-use Rattle.spot_terms.specs.RowBoxes.{IsWithinArea, IsAreaTooWide, IsNarrow, HasTooManyBoxes}
-use Rattle.spot_terms.specs.Statuses.{IsDone}
+use Rattle.spot_terms.specs.Courses.{Course, box_at}
+use Rattle.spot_terms.specs.Pieces.{Piece, Hits, range_of}
+use Rattle.spot_terms.specs.RowBoxes.{IsWithinArea, IsAreaTooWide, IsNarrow, HasTooManyBoxes, row_boxes_in}
 use Rattle.spot_terms.specs.StepLists.{IsFirstList, AreStepLists}
+use Rattle.spot_terms.specs.Tasks.{PredictsTraffic, FindsArea}
 use Rattle.spot_terms.specs.declared.command.Command.{Command}
-use Rattle.spot_terms.specs.declared.command.Task.{Task}
 use Rattle.spot_terms.specs.declared.command.Task.TheVariants.{Area}
 use Rattle.spot_terms.specs.declared.lines.End.{End}
-use Rattle.spot_terms.specs.declared.lines.End.TheVariants as end
+use Rattle.spot_terms.specs.declared.limits.TheConstants.{MOST_ROW_BOXES}
+use Rattle.spot_terms.specs.declared.plain.Disc.{Disc}
 use Rattle.spot_terms.specs.declared.plain.Pt.{Pt}
+use Rattle.spot_terms.specs.declared.scenario.Problem.{Problem}
 use Rattle.spot_terms.specs.declared.scenario.Scenario.{Scenario}
 use Rattle.spot_terms.specs.declared.status.Code.TheVariants.{NoProblem, LateProblem, EgoTooFast}
 use Rattle.spot_terms.specs.declared.status.Status.{Status}
-use Rattle.spot_terms.specs.declared.status.Status.TheVariants.{Open, Empty, Refused, Limit, WriteFault, Memory}
+use Rattle.spot_terms.specs.declared.status.Status.TheVariants.{Refused, Limit, WriteFault, Memory}
 use Rattle.spot_terms.specs.declared.status.Which.TheVariants.{AreaTooWide, TooManyBoxes}
 use Rattle.spot_io.specs.Writes.{WritesText}
 use Rattle.spot_io.specs.declared.traits.Sink.{Ghosts as Sink}
 use Rattle.spot_io.proofs.Writing.{cause_of_both, front_of_both, fault_first, takes_second}
 use Rattle.spot_io.proofs.Moves.{appends_more}
-use Rattle.lanelets.specs.Buildable.{AreBuildable}
 use Rattle.base_sets.specs.Values.{course_with}
-use Rattle.participants.specs.Pieces.{pieces_at}
-use Rattle.participants.specs.Predictions.{Occupancies}
 use Rattle.text_report.specs.declared.ego_line.EgoLine.{EgoLine}
 use Rattle.area_run.specs.Plans.{course_of, plan_with}
 use Rattle.area_run.specs.Running.{Stand, IsOpened}
@@ -40,48 +37,49 @@ use Rattle.area_run.specs.declared.plan.Plan.{Plan}
 use Rattle.area_report.specs.Areas.{AreShort, text_so_far, whole_text, IsStepsText, AllHold, IsEnd, WritesSteps}
 use Rattle.area_report.specs.Egos.{HasEgo, IsProblemFault}
 use Rattle.spot_claims.specs.Outcomes.{PassesAll}
-use Rattle.spot_claims.specs.Outputs.{IsOutput, IsWritten, status_of}
-use Rattle.spot_run.specs.Areas.{count_at, hits_at, range_at, IsPastArea, StatusAt, opening_text, HasWrittenAll, WritesBehind}
-use Rattle.spot_run.specs.Tells.{TakesFor, HasWritten, Tells}
-use Rattle.spot_run.specs.Writes.{IsPredicted, IsPastLimit}
-use Rattle.spot_run.proofs.AreaReports.{area_finds, area_predicts, passes_problem, course_is, pieces_are, some_pieces, passes_to_area, passes_all, whole_output, output_so_far, claims_in}
-use Rattle.spot_run.proofs.Predictions.{limit_tells}
+use Rattle.spot_claims.specs.Outputs.{IsOutput, IsOutputSoFar, IsWritten, status_of}
+use Rattle.spot_claims.specs.AreaOf.{ArePieces, IsWithinAreaOver}
+use Rattle.spot_claims.specs.Problems.{chosen, course_of as problem_course}
+use Rattle.spot_claims.specs.Stages.{IsWithinTraffic, PassesToNetwork, PassesToArea}
+use Rattle.spot_terms.proofs.Unique.{some_one}
+use Rattle.spot_run.specs.Areas.{IsPastArea, StatusAt, HasWrittenAll, WritesBehind}
+use Rattle.spot_run.specs.Tells.{TakesFor, ClaimsIn, HasWritten, Tells}
 
 -- ---- behind what stands before the first step
 
 -- the text of the first step alone is that of some steps
-first_text : (course : Course) (count : ℕ → ℕ) (Hits : ℕ → ℕ → Pt → Type 0) (n : ℕ) (sets : List SetValue) → IsFirstList course count Hits sets → IsStepsText course count Hits n (text_so_far (sets ∷ []))
-first_text course count Hits n sets first = inr (sets ∷ [], (first, tt), (short first, tt), refl)
+first_text : (recorded : ℕ → List Disc) (course : Course) (count : ℕ → ℕ) (Hits : ℕ → ℕ → Pt → Type 0) (n : ℕ) (sets : List SetValue) → IsFirstList course count Hits sets → IsStepsText recorded course count Hits n (text_so_far recorded (sets ∷ []))
+first_text recorded course count Hits n sets first = inr (sets ∷ [], (first, tt), (short first, tt), refl)
   where
     short : IsFirstList course count Hits sets → length sets < 2 ^ 64
     short (inl (left, one)) = let few : length sets ≡ 1 = ap length one in omega (arith, few)
     short (inr (gone, none)) = let few : length sets ≡ 0 = ap length none in omega (arith, few)
 
-module _ {K : Type 0} (sink : Sink K) (opening : List ℕ) (course : Course) (count : ℕ → ℕ) (Hits : ℕ → ℕ → Pt → Type 0) (n : ℕ) where
+module _ {K : Type 0} (sink : Sink K) (opening : List ℕ) (recorded : ℕ → List Disc) (course : Course) (count : ℕ → ℕ) (Hits : ℕ → ℕ → Pt → Type 0) (n : ℕ) where
   abbrev pub HasRoomBehind : K → Type 0
-  HasRoomBehind old = (text : List ℕ) → IsStepsText course count Hits n text → sink.takes old (length (opening ++ text))
+  HasRoomBehind old = (text : List ℕ) → IsStepsText recorded course count Hits n text → sink.takes old (length (opening ++ text))
 
   -- what can take it all can take the opening
   pub takes_opening : (old : K) (sets : List SetValue) → IsFirstList course count Hits sets → ((few many : ℕ) → few ≤ many → sink.takes old many → sink.takes old few) → HasRoomBehind old → sink.takes old (length opening)
   takes_opening old sets first fewer room =
-      let text = text_so_far (sets ∷ []) in
-      fewer (length opening) (length (opening ++ text)) (omega (arith, length-append {A = ℕ})) (room text (first_text course count Hits n sets first))
+      let text = text_so_far recorded (sets ∷ []) in
+      fewer (length opening) (length (opening ++ text)) (omega (arith, length-append {A = ℕ})) (room text (first_text recorded course count Hits n sets first))
 
   -- and once this is written, the steps
-  pub takes_steps : {T E : Type 0} {x : T} (old now : K) → WritesText {E = E} sink old now opening (Ok x) → HasRoomBehind old → (text : List ℕ) → IsStepsText course count Hits n text → sink.takes now (length text)
+  pub takes_steps : {T E : Type 0} {x : T} (old now : K) → WritesText {E = E} sink old now opening (Ok x) → HasRoomBehind old → (text : List ℕ) → IsStepsText recorded course count Hits n text → sink.takes now (length text)
   takes_steps old now w room text is = takes_second text w (room text is)
 
   pub opening_fault : {T U E : Type 0} {x : E} (old new : K) (at : ℕ) (here sets : List SetValue) (result : Result T E) → IsFirstList course count Hits sets → WritesText {T = U} sink old new opening (Err x) → IsErr result
-      → WritesBehind opening course count Hits n sink old new at here result
+      → WritesBehind opening recorded course count Hits n sink old new at here result
   opening_fault old new at here sets (Ok y) first w err = cc
   opening_fault {T = T} old new at here sets (Err y) first w err = record {
     ok = tt;
-    err = (text_so_far (sets ∷ []), first_text course count Hits n sets first, (fault_first {T = T} (text_so_far (sets ∷ [])) (Err y) w err).err);
+    err = (text_so_far recorded (sets ∷ []), first_text recorded course count Hits n sets first, (fault_first {T = T} (text_so_far recorded (sets ∷ [])) (Err y) w err).err);
     cause = record { later = w.cause.later; same = tt; failed = w.cause.failed };
   }
 
-  pub steps_behind : {T U E : Type 0} {x : U} (old now new : K) (at : ℕ) (sets : List SetValue) (result : Result T E) → WritesText {E = E} sink old now opening (Ok x) → WritesSteps course count Hits n sink now new at sets result
-      → WritesBehind opening course count Hits n sink old new at sets result
+  pub steps_behind : {T U E : Type 0} {x : U} (old now new : K) (at : ℕ) (sets : List SetValue) (result : Result T E) → WritesText {E = E} sink old now opening (Ok x) → WritesSteps recorded course count Hits n sink now new at sets result
+      → WritesBehind opening recorded course count Hits n sink old new at sets result
   steps_behind old now new at sets (Ok y) v w =
       let all = w.ok in record {
         ok = record {
@@ -91,7 +89,7 @@ module _ {K : Type 0} (sink : Sink K) (opening : List ℕ) (course : Course) (co
           short = all.short;
           hold = all.hold;
           end_is = all.end_is;
-          appends = appends_more (sink.written old) (sink.written now) (sink.written new) opening (whole_text all.lists all.end) v.ok all.appends;
+          appends = appends_more (sink.written old) (sink.written now) (sink.written new) opening (whole_text recorded all.lists all.end) v.ok all.appends;
         };
         err = tt;
         cause = cause_of_both (Ok y) v.cause.same w.cause;
@@ -114,18 +112,18 @@ boxes_refused course count range n step boxes answered same h = of_boxes (subst 
     of_boxes (inl passed) = passed
     of_boxes (inr none) = let e : fault.TooManyBoxes step boxes ≡ fault.Memory = none.0 in cc
 
-module _ (s : Scenario) (e : EgoLine) (o : Occupancies) (steps : ℕ) (r : Stand Occupancies) (opened : IsOpened o (plan_with e.s e.e e.grid s.step) steps (count_at o) (hits_at o) r) where
+module _ {O : Type 0} (count : O → ℕ → ℕ) (hits : O → ℕ → ℕ → Pt → Type 0) (s : Scenario) (e : EgoLine) (o : O) (steps : ℕ) (r : Stand O) (opened : IsOpened o (plan_with e.s e.e e.grid s.step) steps (count o) (hits o) r) where
   -- what is said of the plan, the pieces and the steps that it was opened with is said of its own
-  pub of_run : (P : Plan → Occupancies → ℕ → Type 0) → P (plan_with e.s e.e e.grid s.step) o steps → P r.plan r.o r.steps
-  of_run P h = subst (λ (p : Plan). P p r.o r.steps) (sym opened.plan_is) (subst (λ (x : Occupancies). P (plan_with e.s e.e e.grid s.step) x r.steps) (sym opened.pieces) (subst (λ (n : ℕ). P (plan_with e.s e.e e.grid s.step) o n) (sym opened.steps_are) h))
+  pub of_run : (P : Plan → O → ℕ → Type 0) → P (plan_with e.s e.e e.grid s.step) o steps → P r.plan r.o r.steps
+  of_run P h = subst (λ (p : Plan). P p r.o r.steps) (sym opened.plan_is) (subst (λ (x : O). P (plan_with e.s e.e e.grid s.step) x r.steps) (sym opened.pieces) (subst (λ (n : ℕ). P (plan_with e.s e.e e.grid s.step) o n) (sym opened.steps_are) h))
 
-  pub to_run : (P : Plan → Occupancies → ℕ → Type 0) → P r.plan r.o r.steps → P (plan_with e.s e.e e.grid s.step) o steps
-  to_run P h = subst (λ (n : ℕ). P (plan_with e.s e.e e.grid s.step) o n) opened.steps_are (subst (λ (x : Occupancies). P (plan_with e.s e.e e.grid s.step) x r.steps) opened.pieces (subst (λ (p : Plan). P p r.o r.steps) opened.plan_is h))
+  pub to_run : (P : Plan → O → ℕ → Type 0) → P r.plan r.o r.steps → P (plan_with e.s e.e e.grid s.step) o steps
+  to_run P h = subst (λ (n : ℕ). P (plan_with e.s e.e e.grid s.step) o n) opened.steps_are (subst (λ (x : O). P (plan_with e.s e.e e.grid s.step) x r.steps) opened.pieces (subst (λ (p : Plan). P p r.o r.steps) opened.plan_is h))
 
-  pub first_of : IsFirstList (course_of r.plan) (count_at r.o) (hits_at r.o) r.sets
+  pub first_of : IsFirstList (course_of r.plan) (count r.o) (hits r.o) r.sets
   first_of =
-      subst (λ (p : Plan). IsFirstList (course_of p) (count_at r.o) (hits_at r.o) r.sets) (sym opened.plan_is)
-      (subst (λ (x : Occupancies). IsFirstList (course_with e.s e.e e.grid s.step) (count_at x) (hits_at x) r.sets) (sym opened.pieces) opened.first)
+      subst (λ (p : Plan). IsFirstList (course_of p) (count r.o) (hits r.o) r.sets) (sym opened.plan_is)
+      (subst (λ (x : O). IsFirstList (course_with e.s e.e e.grid s.step) (count x) (hits x) r.sets) (sym opened.pieces) opened.first)
 
 -- ---- the status of a run that is done
 
@@ -145,86 +143,115 @@ pub done_is_no_fault : (at : ℕ) (sets : List SetValue) (status : Status) → S
 done_is_no_fault at [] status h e = cc
 done_is_no_fault at (b ∷ sets) status h e = cc
 
+-- ---- what a mode that finds an area has
+
+-- over its pieces, where it writes these discs with the steps, behind an opening
+pub record IsOver (s : Scenario) (c : Command) (e : EgoLine) (ego : HasEgo s c e) (opening : List ℕ) (recorded : ℕ → List Disc) (pieces : ℕ → List Piece) : Type 0 where
+  pub pieces_are : ArePieces s c pieces
+  pub passing : PassesToArea s c ego.problem
+  pub passes : IsWithinArea (course_with e.s e.e e.grid s.step) (λ i. length (pieces i)) (λ i. range_of (pieces i)) c.steps → PassesAll s c
+  pub so_far : (text : List ℕ) → IsStepsText recorded (course_with e.s e.e e.grid s.step) (λ i. length (pieces i)) (λ i. Hits (pieces i)) c.steps text → IsOutputSoFar s c (opening ++ text)
+  pub whole : (lists : List (List SetValue)) (ends : End) → AreStepLists (course_with e.s e.e e.grid s.step) (λ i. length (pieces i)) (λ i. Hits (pieces i)) c.steps lists ends → AreShort lists
+      → IsOutput s c (opening ++ whole_text recorded lists ends) ends
+  pub claims : (lists : List (List SetValue)) (ends : End) → AreStepLists (course_with e.s e.e e.grid s.step) (λ i. length (pieces i)) (λ i. Hits (pieces i)) c.steps lists ends
+      → AllHold (course_with e.s e.e e.grid s.step) (λ i. length (pieces i)) (λ i. Hits (pieces i)) c.steps lists → ClaimsIn s c (opening ++ whole_text recorded lists ends)
+  pub status : (ends : End) → status_of c.task ends ≡ status_of Area ends
+
+pub passes_problem : (s : Scenario) (c : Command) (e : EgoLine) → HasEgo s c e → PassesToNetwork s c
+passes_problem s c e ego = record { problem = λ finds. (ego.problem, ego.is_chosen, ego.at_start, ego.slow); built = tt }
+
+module _ (s : Scenario) (c : Command) (e : EgoLine) (ego : HasEgo s c e) (mine : ℕ → List Piece) (one : (pieces : ℕ → List Piece) → ArePieces s c pieces → (i : ℕ) → i ≤ c.steps → mine i ≡ pieces i) where
+  -- what is within the limits over these pieces is so over all pieces of the scenario
+  within_over : (course : Course) (pieces : ℕ → List Piece) → ArePieces s c pieces → IsWithinArea course (λ i. length (mine i)) (λ i. range_of (mine i)) c.steps → IsWithinAreaOver course c.steps pieces
+  within_over course pieces are h = record {
+    narrow = h.narrow;
+    few = λ i within. subst (λ (ps : List Piece). row_boxes_in course.w course.g (box_at course i) (length ps) (range_of ps) ≤ MOST_ROW_BOXES) (one pieces are i within) (h.few i within);
+  }
+
+  pub passes_over : (PredictsTraffic c.task → IsWithinTraffic s c) → IsWithinArea (course_with e.s e.e e.grid s.step) (λ i. length (mine i)) (λ i. range_of (mine i)) c.steps → PassesAll s c
+  passes_over traffic h = record {
+    passing = passes_problem s c e ego;
+    within = record {
+      traffic = traffic;
+      area = λ finds problem pieces is are.
+          let one : ego.problem ≡ problem = some_one (chosen c.problem s.problems) ego.problem problem ego.is_chosen is in
+          subst (λ (p : Problem). IsWithinAreaOver (problem_course s c p) c.steps pieces) one
+          (within_over (problem_course s c ego.problem) pieces are (subst (λ (course : Course). IsWithinArea course (λ i. length (mine i)) (λ i. range_of (mine i)) c.steps) (ego.is.course s) h));
+    };
+  }
+
 -- ---- what it tells
 
-module _ (s : Scenario) (c : Command) (task : c.task ≡ Area) where
-  -- of a problem that is refused
-  pub problem_tells : (before after : Option (List ℕ)) (status : Status) → IsProblemFault s c status → Tells s c before after status
-  problem_tells before after (Refused NoProblem place) h = (h.0, record { finds = area_finds c task; none = h.1 })
-  problem_tells before after (Refused LateProblem place) h = record { finds = area_finds c task; problem = h.problem; chosen = h.is_chosen; late = h.late; place_is = h.place_is }
-  problem_tells before after (Refused EgoTooFast place) h = record { finds = area_finds c task; problem = h.problem; chosen = h.is_chosen; at_start = h.at_start; fast = h.fast; place_is = h.place_is }
-  problem_tells before after status h = absurd h
+-- of a problem that is refused
+pub problem_tells : (s : Scenario) (c : Command) → FindsArea c.task → (before after : Option (List ℕ)) (status : Status) → IsProblemFault s c status → Tells s c before after status
+problem_tells s c finds before after (Refused NoProblem place) h = (h.0, record { finds = finds; none = h.1 })
+problem_tells s c finds before after (Refused LateProblem place) h = record { finds = finds; problem = h.problem; chosen = h.is_chosen; late = h.late; place_is = h.place_is }
+problem_tells s c finds before after (Refused EgoTooFast place) h = record { finds = finds; problem = h.problem; chosen = h.is_chosen; at_start = h.at_start; fast = h.fast; place_is = h.place_is }
+problem_tells s c finds before after status h = absurd h
 
-  -- of traffic that passes a limit
-  pub traffic_tells : (e : EgoLine) (before after : Option (List ℕ)) (status : Status) → HasEgo s c e → IsPastLimit s c.steps status → Tells s c before after status
-  traffic_tells e before after status ego h = limit_tells s c before after status (passes_problem s c e ego) (area_predicts c task) h
-
-  module _ (e : EgoLine) (o : Occupancies) (ego : HasEgo s c e) (predicted : IsPredicted s c.steps o) where
-    -- of an area that passes a limit
-    pub area_tells : (before after : Option (List ℕ)) (status : Status) → IsPastArea (course_with e.s e.e e.grid s.step) (count_at o) (range_at o) c.steps status → Tells s c before after status
-    area_tells before after (Limit AreaTooWide step cells) h = (
-      record {
-        problem = ego.problem;
-        passing = passes_to_area s c task e o ego predicted;
-        wide = subst (λ (course : Course). IsAreaTooWide course c.steps step cells) (course_is s c task e o ego predicted) h;
-      },
-      some_pieces s c task e o ego predicted,
-    )
-    area_tells before after (Limit TooManyBoxes step boxes) h = record {
+module _ (s : Scenario) (c : Command) (e : EgoLine) (ego : HasEgo s c e) (opening : List ℕ) (recorded : ℕ → List Disc) (pieces : ℕ → List Piece) (over : IsOver s c e ego opening recorded pieces) where
+  -- of an area that passes a limit
+  pub area_tells : (before after : Option (List ℕ)) (status : Status) → IsPastArea (course_with e.s e.e e.grid s.step) (λ i. length (pieces i)) (λ i. range_of (pieces i)) c.steps status → Tells s c before after status
+  area_tells before after (Limit AreaTooWide step cells) h = (
+    record {
       problem = ego.problem;
-      passing = passes_to_area s c task e o ego predicted;
-      pieces = pieces_at o;
-      pieces_are = pieces_are s c task e o ego predicted;
-      narrow = subst (λ (course : Course). IsNarrow course c.steps) (course_is s c task e o ego predicted) h.0;
-      many = subst (λ (course : Course). HasTooManyBoxes course (count_at o) (range_at o) c.steps step boxes) (course_is s c task e o ego predicted) h.1;
+      passing = over.passing;
+      wide = subst (λ (course : Course). IsAreaTooWide course c.steps step cells) (ego.is.course s) h;
+    },
+    (pieces, over.pieces_are),
+  )
+  area_tells before after (Limit TooManyBoxes step boxes) h = record {
+    problem = ego.problem;
+    passing = over.passing;
+    pieces = pieces;
+    pieces_are = over.pieces_are;
+    narrow = subst (λ (course : Course). IsNarrow course c.steps) (ego.is.course s) h.0;
+    many = subst (λ (course : Course). HasTooManyBoxes course (λ i. length (pieces i)) (λ i. range_of (pieces i)) c.steps step boxes) (ego.is.course s) h.1;
+  }
+  area_tells before after Memory h = tt
+  area_tells before after status h = absurd h
+
+  module _ (within : IsWithinArea (course_with e.s e.e e.grid s.step) (λ i. length (pieces i)) (λ i. range_of (pieces i)) c.steps) where
+    -- what can take each output and each beginning can take it all
+    pub area_room : (can : ℕ → Type 0) → TakesFor s c can → (text : List ℕ) → IsStepsText recorded (course_with e.s e.e e.grid s.step) (λ i. length (pieces i)) (λ i. Hits (pieces i)) c.steps text → can (length (opening ++ text))
+    area_room can takes text is = takes (opening ++ text) (over.passes within) (over.so_far text is)
+
+    -- of a fault of writing
+    pub fault_tells : (before after : Option (List ℕ)) (text : List ℕ) → IsStepsText recorded (course_with e.s e.e e.grid s.step) (λ i. length (pieces i)) (λ i. Hits (pieces i)) c.steps text → AppendsFront before after (opening ++ text)
+        → Tells s c before after WriteFault
+    fault_tells before after text is (front, back, text_is, app) = record {
+      passes = over.passes within;
+      pieces = λ finds. (pieces, over.pieces_are);
+      text = opening ++ text;
+      output = over.so_far text is;
+      front = front;
+      back = back;
+      text_is = text_is;
+      appends = app;
+      whole = λ done. absurd done;
+      claims = λ done. absurd done;
     }
-    area_tells before after Memory h = tt
-    area_tells before after status h = absurd h
 
-    module _ (range : IsInRange s) (lanes : AreBuildable s.lanelets.entries) (few : IsCommandInRange c) (within : IsWithinArea (course_with e.s e.e e.grid s.step) (count_at o) (range_at o) c.steps) where
-      passes : PassesAll s c
-      passes = passes_all s c task e o ego predicted within
+    -- of a whole report
+    whole_written : (before after : Option (List ℕ)) (status : Status) (lists : List (List SetValue)) (ends : End)
+        → AreStepLists (course_with e.s e.e e.grid s.step) (λ i. length (pieces i)) (λ i. Hits (pieces i)) c.steps lists ends → AreShort lists → AllHold (course_with e.s e.e e.grid s.step) (λ i. length (pieces i)) (λ i. Hits (pieces i)) c.steps lists
+        → Appends before after (opening ++ whole_text recorded lists ends) → status ≡ status_of c.task ends → HasWritten s c before after status
+    whole_written before after status lists ends are short hold app is =
+        let output : IsOutput s c (opening ++ whole_text recorded lists ends) ends = over.whole lists ends are short in record {
+          passes = over.passes within;
+          pieces = λ finds. (pieces, over.pieces_are);
+          text = opening ++ whole_text recorded lists ends;
+          output = inl (ends, output);
+          front = opening ++ whole_text recorded lists ends;
+          back = [];
+          text_is = append-nil (opening ++ whole_text recorded lists ends);
+          appends = app;
+          whole = λ done. record { ends = ends; output = output; status_is = is };
+          claims = λ done. over.claims lists ends are hold;
+        }
 
-      -- what can take each output and each beginning can take it all
-      pub area_room : (can : ℕ → Type 0) → TakesFor s c can → (text : List ℕ) → IsStepsText (course_with e.s e.e e.grid s.step) (count_at o) (hits_at o) c.steps text → can (length (opening_text s c.steps o e ++ text))
-      area_room can takes text is = takes (opening_text s c.steps o e ++ text) passes (output_so_far s c task e o ego predicted range lanes few text is)
-
-      -- of a fault of writing
-      pub fault_tells : (before after : Option (List ℕ)) (text : List ℕ) → IsStepsText (course_with e.s e.e e.grid s.step) (count_at o) (hits_at o) c.steps text → AppendsFront before after (opening_text s c.steps o e ++ text)
-          → Tells s c before after WriteFault
-      fault_tells before after text is (front, back, text_is, app) = record {
-        passes = passes;
-        pieces = λ finds. some_pieces s c task e o ego predicted;
-        text = opening_text s c.steps o e ++ text;
-        output = output_so_far s c task e o ego predicted range lanes few text is;
-        front = front;
-        back = back;
-        text_is = text_is;
-        appends = app;
-        whole = λ done. absurd done;
-        claims = λ done. absurd done;
-      }
-
-      -- of a whole report
-      whole_written : (before after : Option (List ℕ)) (status : Status) (lists : List (List SetValue)) (ends : End) → HaveUniqueIds s
-          → AreStepLists (course_with e.s e.e e.grid s.step) (count_at o) (hits_at o) c.steps lists ends → AreShort lists → AllHold (course_with e.s e.e e.grid s.step) (count_at o) (hits_at o) c.steps lists
-          → Appends before after (opening_text s c.steps o e ++ whole_text lists ends) → status ≡ status_of c.task ends → HasWritten s c before after status
-      whole_written before after status lists ends ids are short hold app is =
-          let output : IsOutput s c (opening_text s c.steps o e ++ whole_text lists ends) ends = whole_output s c task e o ego predicted range lanes few lists ends are short in record {
-            passes = passes;
-            pieces = λ finds. some_pieces s c task e o ego predicted;
-            text = opening_text s c.steps o e ++ whole_text lists ends;
-            output = inl (ends, output);
-            front = opening_text s c.steps o e ++ whole_text lists ends;
-            back = [];
-            text_is = append-nil (opening_text s c.steps o e ++ whole_text lists ends);
-            appends = app;
-            whole = λ done. record { ends = ends; output = output; status_is = is };
-            claims = λ done. claims_in s c task e o ego predicted range lanes few lists ends ids are hold;
-          }
-
-      pub whole_tells : (before after : Option (List ℕ)) (status : Status) (at : ℕ) (sets : List SetValue) → HaveUniqueIds s
-          → HasWrittenAll (opening_text s c.steps o e) (course_with e.s e.e e.grid s.step) (count_at o) (hits_at o) c.steps before after at sets → StatusAt at sets status → Tells s c before after status
-      whole_tells before after status at sets ids h is =
-          let same : status ≡ status_of c.task h.end = subst (λ (t : Task). status ≡ status_of t h.end) (sym task) (status_is at sets h.end status h.end_is is) in
-          done_tells s c before after at sets status is (whole_written before after status h.lists h.end ids h.lists_are h.short h.hold h.appends same)
+    pub whole_tells : (before after : Option (List ℕ)) (status : Status) (at : ℕ) (sets : List SetValue)
+        → HasWrittenAll opening recorded (course_with e.s e.e e.grid s.step) (λ i. length (pieces i)) (λ i. Hits (pieces i)) c.steps before after at sets → StatusAt at sets status → Tells s c before after status
+    whole_tells before after status at sets h is =
+        let same : status ≡ status_of c.task h.end = status_is at sets h.end status h.end_is is ∙ sym (over.status h.end) in
+        done_tells s c before after at sets status is (whole_written before after status h.lists h.end h.lists_are h.short h.hold h.appends same)

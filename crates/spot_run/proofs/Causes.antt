@@ -1,5 +1,9 @@
 -- What a run says of its answer, by how far it came.
-use Rattle.std.proofs.Common.{◌≡◌, ◌≢◌, ◌∙◌, ◌⊎◌, inl, inr, ℕ, suc, ◌<◌, ◌≤◌, List, [], ◌∷◌, length, Option, Some, Err, refl, sym, ap, subst, arith}
+use Rattle.std.proofs.Common.{◌≡◌, ◌≢◌, ◌∙◌, ◌⊎◌, inl, inr, ℕ, ◌<◌, ◌≤◌, List, [], length, Option, Some, Err, refl, sym, ap, subst, arith}
+use Rattle.spot_terms.specs.declared.plain.Pt.{Pt}
+use Rattle.spot_terms.specs.StepLists.{AreStepLists}
+use Rattle.spot_terms.specs.Courses.{Course}
+use Rattle.spot_terms.specs.BaseSets.{SetValue}
 use Rattle.spot_terms.specs.declared.limits.TheConstants.{MOST_BYTES}
 use Rattle.std.specs.Prelude.{IfSome}
 use Rattle.spot_terms.specs.Causes.{Takes}
@@ -8,7 +12,7 @@ use Rattle.spot_terms.specs.Statuses.{IsDone}
 use Rattle.spot_terms.specs.Tasks.{ReadsInput, PredictsTraffic, FindsArea}
 use Rattle.spot_terms.specs.declared.command.Command.{Command}
 use Rattle.spot_terms.specs.declared.command.Task.{Task}
-use Rattle.spot_terms.specs.declared.command.Task.TheVariants.{Predict, Area}
+use Rattle.spot_terms.specs.declared.command.Task.TheVariants.{Predict, Area, Replay}
 use Rattle.spot_terms.specs.declared.lines.End.{End}
 use Rattle.spot_terms.specs.declared.lines.End.TheVariants as end
 use Rattle.spot_terms.specs.declared.scenario.Scenario.{Scenario}
@@ -118,6 +122,7 @@ no_command_holds run e nothing = record {
 whole_is_built : (task : Task) → IsBuiltWhole task → IsBuilt task
 whole_is_built Predict h = tt
 whole_is_built Area h = tt
+whole_is_built Replay h = tt
 whole_is_built task h = absurd h
 
 not_built_holds : (run : Run) (c : Command) → run.status ≡ Refused NotYet 0 → run.Stands c → ((d : Command) → run.Stands d → d ≡ c) → (IsBuilt c.task → ⊥) → AllHold run
@@ -393,19 +398,28 @@ cause_of run c s Cause answer h is comes = exactly_for run c Cause answer h.for 
 })
 
 -- a run that ends empty ends at one of its steps
-area_within : (s : Scenario) (c : Command) (text : List ℕ) (ends : End) (i : ℕ) → IsOutputOf Area s c text ends → Empty i ≡ status_of Area ends → i ≤ c.steps
-area_within s c text end.Done i output e = cc
-area_within s c text end.Open i output e = cc
-area_within s c text (end.Empty j) i output e =
+ended_within : (course : Course) (count : ℕ → ℕ) (Hits : ℕ → ℕ → Pt → Type 0) (n : ℕ) (lists : List (List SetValue)) (ends : End) (i : ℕ) → AreStepLists course count Hits n lists ends → Empty i ≡ status_of Area ends → i ≤ n
+ended_within course count Hits n lists end.Done i are e = cc
+ended_within course count Hits n lists end.Open i are e = cc
+ended_within course count Hits n lists (end.Empty j) i are e =
     let at : i ≡ j = cc in
-    let run = output.report.run in
-    subst (λ (k : ℕ). k ≤ c.steps) (sym at) (ends_within (course_of s c output.report.problem) (λ k. length (output.report.pieces k)) (λ k. Hits (output.report.pieces k)) c.steps output.report.lists j run.lists_are)
+    subst (λ (k : ℕ). k ≤ n) (sym at) (ends_within course count Hits n lists j are)
+
+pub replay_status : (ends : End) → status_of Replay ends ≡ status_of Area ends
+replay_status end.Done = refl
+replay_status end.Open = refl
+replay_status (end.Empty i) = refl
 
 empty_known : (task : Task) (s : Scenario) (c : Command) (text : List ℕ) (ends : End) (i : ℕ) → IsBuilt task → IsOutputOf task s c text ends → Empty i ≡ status_of task ends → EndsEmpty task × (i ≤ c.steps)
 empty_known Predict s c text end.Done i built output e = cc
 empty_known Predict s c text end.Open i built output e = let done : end.Open ≡ end.Done = output.1 in cc
 empty_known Predict s c text (end.Empty j) i built output e = let done : end.Empty j ≡ end.Done = output.1 in cc
-empty_known Area s c text ends i built output e = (tt, area_within s c text ends i output e)
+empty_known Area s c text ends i built output e =
+    let run = output.report.run in
+    (tt, ended_within (course_of s c output.report.problem) (λ k. length (output.report.pieces k)) (λ k. Hits (output.report.pieces k)) c.steps output.report.lists ends i run.lists_are e)
+empty_known Replay s c text ends i built output e =
+    let run = output.report.run in
+    (tt, ended_within (course_of s c output.report.problem) (λ k. length (output.report.pieces k)) (λ k. Hits (output.report.pieces k)) c.steps output.report.lists ends i run.lists_are (e ∙ replay_status ends))
 empty_known task s c text ends i built output e = absurd built
 
 tells_known : (run : Run) (s : Scenario) (c : Command) (before after : Option (List ℕ)) (status : Status) → IsForCommand run c → Tells s c before after status → IsKnownAs status run

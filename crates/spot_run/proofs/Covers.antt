@@ -2,7 +2,6 @@
 use Rattle.std.proofs.Common.{◌≡◌, ◌∙◌, Some, inl, inr, ℕ, zero, suc, add-zero, zero-add, ◌+◌, ◌==◌, ◌<◌, ◌^◌, true, false, cond, List, [], ◌∷◌, ◌++◌, map, refl, sym, ap, subst, arith, ℤ}
 use Rattle.std.specs.List.{flat_map}
 use Rattle.std.specs.Prelude.{slice_get}
-use Rattle.std.proofs.lemmas.Bool.Decides.{nat_tests}
 use Rattle.spot_terms.specs.Ids.{HaveUniqueIds}
 use Rattle.spot_terms.specs.Lists.{Includes, Pairwise, numbers_from}
 use Rattle.spot_terms.specs.Cells.{Lane}

@@ -11,5 +11,6 @@ pub mod Causes
 pub mod Refusals
 pub mod Predictions
 pub mod AreaLines
-pub mod AreaReports
 pub mod AreaTells
+pub mod AreaReports
+pub mod ReplayReports

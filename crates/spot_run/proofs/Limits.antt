@@ -1,20 +1,21 @@
 -- When a run is refused, or passes a limit.
-use Rattle.std.proofs.Common.{◌≡◌, ◌∙◌, ◌⊎◌, inl, inr, ℕ, ◌+◌, ◌<◌, ◌≤◌, List, length, Option, Some, None, refl, sym, ap, subst, arith}
+use Rattle.std.proofs.Common.{◌≡◌, ◌∙◌, ◌⊎◌, inl, inr, ℕ, ◌<◌, ◌≤◌, List, map, length, Option, Some, None, refl, sym, ap, subst, arith}
 use Rattle.std.specs.Prelude.{slice_get}
 use Rattle.spot_terms.specs.Cells.{Lane, cells}
 use Rattle.spot_terms.specs.Courses.{Course, box_at}
 use Rattle.spot_terms.specs.Limits.{IsTooWide, AreNarrowBelow, IsFirstWide, HasNetwork}
 use Rattle.spot_terms.specs.Lists.{Pairwise}
-use Rattle.spot_terms.specs.OccupiedPieces.{Occupant, IsOccupant, AreOccupants, predicted_pieces}
+use Rattle.spot_terms.specs.OccupiedPieces.{Occupant, IsOccupant, AreOccupants, predicted_pieces, recorded_pieces}
 use Rattle.spot_terms.specs.Participants.{starting, PairsSumTo, HasPairs}
-use Rattle.spot_terms.specs.Pieces.{Piece, range_of}
+use Rattle.spot_terms.specs.Pieces.{Piece, range_of, disc}
 use Rattle.spot_terms.specs.RowBoxes.{IsTooWideAt, IsNarrow, IsAreaTooWide, row_boxes_in, row_boxes}
 use Rattle.spot_terms.specs.Statuses.{IsDone}
 use Rattle.spot_terms.specs.Tasks.{FindsArea}
 use Rattle.spot_terms.specs.declared.command.Command.{Command}
 use Rattle.spot_terms.specs.declared.command.Task.{Task}
-use Rattle.spot_terms.specs.declared.command.Task.TheVariants.{Predict, Area}
+use Rattle.spot_terms.specs.declared.command.Task.TheVariants.{Predict, Area, Replay}
 use Rattle.spot_terms.specs.declared.limits.TheConstants.{MOST_CELLS, MOST_LANE_POLYGONS, MOST_ROW_BOXES}
+use Rattle.spot_terms.specs.declared.plain.Disc.{Disc}
 use Rattle.spot_terms.specs.declared.scenario.Problem.{Problem}
 use Rattle.spot_terms.specs.declared.scenario.Scenario.{Scenario}
 use Rattle.spot_terms.specs.declared.status.Code.{Code}
@@ -30,12 +31,12 @@ use Rattle.spot_claims.specs.Answers.{IsOutside, HasNoProblem, HasLateProblem, H
 use Rattle.spot_claims.specs.AreaOf.{ArePieces, HasTooManyBoxesOver}
 use Rattle.spot_claims.specs.Built.{IsBuilt}
 use Rattle.spot_claims.specs.Outcomes.{PassesAll}
-use Rattle.spot_claims.specs.Problems.{chosen, IsChosen, IsSlowEnough, course_of, PassesProblem}
+use Rattle.spot_claims.specs.Problems.{ego_radius, chosen, IsChosen, IsSlowEnough, course_of, PassesProblem}
 use Rattle.spot_claims.specs.Stages.{IsWithinTraffic, PassesToNetwork, PassesToArea}
-use Rattle.spot_claims.proofs.OneReport.{area_pieces, area_same}
+use Rattle.spot_claims.proofs.OneReport.{area_pieces, replay_pieces, area_same, replay_same}
 use Rattle.participants.proofs.OneNumber.{pairs_are_one}
-use Rattle.spot_run.specs.Tells.{HasWritten, HasSomePieces, Tells}
-use Rattle.spot_run.proofs.Runs.{AreAlike}
+use Rattle.spot_run.specs.Tells.{HasSomePieces, Tells}
+use Rattle.spot_run.proofs.Runs.{AreAlike, discs_same}
 
 -- ---- one lanelet is the first that is too wide
 
@@ -70,13 +71,17 @@ pairs_carried s t steps n same h =
     subst (λ ls. PairsSumTo ls s.step steps (starting s.movers) n) same.lanes
     (subst (λ k. PairsSumTo t.lanelets.entries k steps (starting s.movers) n) same.step (subst (λ ms. PairsSumTo t.lanelets.entries t.step steps (starting ms) n) same.movers h))
 
-task_area : (task : Task) → IsBuilt task → FindsArea task → task ≡ Area
-task_area Predict built finds = absurd finds
-task_area Area built finds = refl
-task_area task built finds = absurd built
+task_either : (task : Task) → IsBuilt task → FindsArea task → (task ≡ Area) ⊎ (task ≡ Replay)
+task_either Predict built finds = absurd finds
+task_either Area built finds = inl refl
+task_either Replay built finds = inr refl
+task_either task built finds = absurd built
 
 pub pieces_area : (s : Scenario) (c : Command) (pieces : ℕ → List Piece) → c.task ≡ Area → (occupants : List Occupant) × AreOccupants s c.steps occupants × ((i : ℕ) → i ≤ c.steps → pieces i ≡ predicted_pieces s occupants i) → ArePieces s c pieces
 pieces_area s c pieces e h = rw e h
+
+pub pieces_replay : (s : Scenario) (c : Command) (pieces : ℕ → List Piece) → c.task ≡ Replay → ((i : ℕ) → i ≤ c.steps → pieces i ≡ recorded_pieces s (ego_radius c) i) → ArePieces s c pieces
+pieces_replay s c pieces e h = rw e h
 
 occupants_same : (s t : Scenario) (steps : ℕ) (occupants : List Occupant) → AreAlike t s → AreOccupants t steps occupants → AreOccupants s steps occupants
 occupants_same s t steps occupants same h =
@@ -105,9 +110,18 @@ module _ (s t : Scenario) (c : Command) (same : AreAlike t s) where
 
   pieces_carried : IsBuilt c.task → FindsArea c.task → (pieces : ℕ → List Piece) → ArePieces t c pieces → ArePieces s c pieces
   pieces_carried built finds pieces h =
-      let task : c.task ≡ Area = task_area c.task built finds in
-      let (occupants, are, is) = area_pieces t c pieces task h in
-      pieces_area s c pieces task (occupants, occupants_same s t c.steps occupants same are, λ i within. is i within ∙ predicted_same s t occupants i same)
+      elim (task_either c.task built finds) [
+        | inl task ↦ predicted_over pieces task h
+        | inr task ↦ recorded_over pieces task h
+      ]
+    where
+      predicted_over : (pieces : ℕ → List Piece) → c.task ≡ Area → ArePieces t c pieces → ArePieces s c pieces
+      predicted_over pieces task h =
+          let (occupants, are, is) = area_pieces t c pieces task h in
+          pieces_area s c pieces task (occupants, occupants_same s t c.steps occupants same are, λ i within. is i within ∙ predicted_same s t occupants i same)
+
+      recorded_over : (pieces : ℕ → List Piece) → c.task ≡ Replay → ArePieces t c pieces → ArePieces s c pieces
+      recorded_over pieces task h = pieces_replay s c pieces task (λ i within. replay_pieces t c pieces task h i within ∙ ap (λ (ds : List Disc). map (λ d. disc d.p d.r) ds) (discs_same t s (ego_radius c) i same))
 
   pub no_problem_carried : HasNoProblem t c → HasNoProblem s c
   no_problem_carried h = record { finds = h.finds; none = subst (λ ps. chosen c.problem ps ≡ None) same.problems h.none }
@@ -211,13 +225,19 @@ module _ (s : Scenario) (c : Command) where
       let same : step ≡ other = order_one step other (λ less. y.wide.least step count less wide.wide) (λ less. wide.least other number less y.wide.wide) in
       (same, width_one (course_of s c y.problem) other count number (subst (λ (i : ℕ). IsTooWideAt (course_of s c y.problem) i count) same wide.wide) y.wide.wide)
 
+  pieces_one : (ps qs : ℕ → List Piece) → IsBuilt c.task → FindsArea c.task → ArePieces s c ps → ArePieces s c qs → (i : ℕ) → i ≤ c.steps → ps i ≡ qs i
+  pieces_one ps qs built finds h k i within = elim (task_either c.task built finds) [
+    | inl task ↦ area_same s c ps qs task h k i within
+    | inr task ↦ replay_same s c ps qs task h k i within
+  ]
+
   boxes_one : (step other count number : ℕ) → IsBuilt c.task → HasManyBoxes step count s c → HasManyBoxes other number s c → (step ≡ other) × (count ≡ number)
   boxes_one step other count number built x y =
       let one : x.problem ≡ y.problem = some_one (chosen c.problem s.problems) x.problem y.problem x.passing.chosen y.passing.chosen in
       let many = subst (λ (q : Problem). HasTooManyBoxesOver (course_of s c q) c.steps x.pieces step count) one x.many in
       let course = course_of s c y.problem in
       let boxes : (i : ℕ) → i ≤ c.steps → over course x.pieces i ≡ over course y.pieces i
-      = λ i within. ap (λ (ps : List Piece). row_boxes_in course.w course.g (box_at course i) (length ps) (range_of ps)) (area_same s c x.pieces y.pieces (task_area c.task built x.passing.finds) x.pieces_are y.pieces_are i within) in
+      = λ i within. ap (λ (ps : List Piece). row_boxes_in course.w course.g (box_at course i) (length ps) (range_of ps)) (pieces_one x.pieces y.pieces built x.passing.finds x.pieces_are y.pieces_are i within) in
       let same : step ≡ other = order_one step other
       (λ less. more (boxes step many.within) many.boxes_are many.many (y.many.least step less))
       (λ less. more (sym (boxes other y.many.within)) y.many.boxes_are y.many.many (many.least other less)) in

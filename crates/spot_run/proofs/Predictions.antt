@@ -1,6 +1,5 @@
 -- What a prediction that was written tells of its command.
-use Rattle.std.proofs.Common.{◌≡◌, inl, inr, ℕ, ◌++◌, ◌∷◌, List, [], Option, length, refl, sym, subst, append-nil}
-use Rattle.std.specs.Io.KnownBytes.{Appends}
+use Rattle.std.proofs.Common.{◌≡◌, inl, inr, ℕ, ◌++◌, ◌∷◌, List, [], Option, refl, sym, subst, append-nil}
 use Rattle.spot_terms.specs.Ids.{HaveUniqueIds}
 use Rattle.spot_terms.specs.Ranges.{IsCommandInRange, IsInRange}
 use Rattle.spot_terms.specs.Report.{last_line}
@@ -21,7 +20,7 @@ use Rattle.spot_claims.specs.Outputs.{IsOutputOf, IsOutput, status_of}
 use Rattle.spot_claims.specs.Stages.{IsWithinTraffic, PassesToNetwork}
 use Rattle.participants.specs.Predictions.{Occupancies}
 use Rattle.spot_run.specs.Lines.{traffic_lines, prediction_lines}
-use Rattle.spot_run.specs.Tells.{TakesFor, ClaimsIn, HasWritten, Tells}
+use Rattle.spot_run.specs.Tells.{TakesFor, ClaimsIn, Tells}
 use Rattle.spot_run.specs.Writes.{report_of, IsPredicted, IsPastLimit, TakesPrediction, WritesPrediction}
 use Rattle.spot_run.proofs.Alone.{IsOther, AreOthers}
 use Rattle.spot_run.proofs.Covers.{traffic_covers}

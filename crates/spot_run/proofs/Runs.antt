@@ -1,27 +1,26 @@
 -- What a run says, from what its parts say.
-use Rattle.std.proofs.Common.{◌≡◌, ◌∙◌, inl, inr, ℕ, ◌*◌, ◌-◌, ◌≤◌, List, [], ◌∷◌, ◌++◌, length, Option, Some, None, refl, sym, ap, subst}
+use Rattle.std.proofs.Common.{◌≡◌, ◌∙◌, inl, inr, ℕ, ◌*◌, ◌-◌, ◌≤◌, List, ◌∷◌, ◌++◌, length, Option, Some, None, refl, sym, ap, subst}
 use Rattle.std.specs.Prelude.{IfSome, IfNone, slice_get}
 use Rattle.std.specs.Io.KnownBytes.{Appends}
 use Rattle.std.proofs.lemmas.List.{append_cancel_left}
 use Rattle.spot_terms.specs.LaneMotions.{IsLaneMotion}
 use Rattle.spot_terms.specs.Lists.{Includes}
 use Rattle.spot_terms.specs.Motions.{State}
+use Rattle.spot_terms.specs.OccupiedPieces.{discs}
 use Rattle.spot_terms.specs.Participants.{FollowsLanes}
 use Rattle.spot_terms.specs.Ranges.{IsCommandInRange}
-use Rattle.spot_terms.specs.Report.{Line, EgoValue, head_line, time_line, report_text, IsReport}
+use Rattle.spot_terms.specs.Report.{Line, EgoValue, head_line, time_line}
 use Rattle.spot_terms.specs.Statuses.{IsDone}
-use Rattle.spot_terms.specs.Tasks.{ReadsInput, PredictsTraffic}
+use Rattle.spot_terms.specs.Tasks.{ReadsInput}
 use Rattle.spot_terms.specs.declared.command.Command.{Command}
 use Rattle.spot_terms.specs.declared.command.Task.{Task}
-use Rattle.spot_terms.specs.declared.command.Task.TheVariants.{Predict, Area}
+use Rattle.spot_terms.specs.declared.command.Task.TheVariants.{Predict, Area, Replay}
 use Rattle.spot_terms.specs.declared.limits.TheConstants.{MOST_BYTES}
 use Rattle.spot_terms.specs.declared.lines.Mode.{Mode}
 use Rattle.spot_terms.specs.declared.lines.Mode.TheVariants as mode
 use Rattle.spot_terms.specs.declared.lines.MoverLine.{MoverLine}
-use Rattle.spot_terms.specs.declared.plain.Pt.{Pt}
-use Rattle.spot_terms.specs.declared.scenario.Fixed.{Fixed}
+use Rattle.spot_terms.specs.declared.plain.Disc.{Disc}
 use Rattle.spot_terms.specs.declared.scenario.Mover.{Mover}
-use Rattle.spot_terms.specs.declared.scenario.Problem.{Problem}
 use Rattle.spot_terms.specs.declared.scenario.Scenario.{Scenario}
 use Rattle.spot_terms.specs.declared.status.Status.{Status}
 use Rattle.spot_terms.specs.declared.status.Status.TheVariants.{Open, Empty, WriteFault}
@@ -30,12 +29,12 @@ use Rattle.spot_terms.proofs.Unique.{some_injective}
 use Rattle.spot_tree.proofs.Readings.{one_tree}
 use Rattle.scenario.proofs.Unique.{scenario_is_one}
 use Rattle.spot_claims.specs.Built.{IsBuilt, IsBuiltWhole}
-use Rattle.spot_claims.specs.EgoClaims.{IsEgoLine, IsEgo, InFixed, InParticipant, IsOccupied, HasEntered, IsStruck, IsStruckIn, CoversEgo}
-use Rattle.spot_claims.specs.Headline.{BeginsWith, ClaimsOf, Claims, Reports, Headline}
+use Rattle.spot_claims.specs.EgoClaims.{IsEgoLine, IsOccupied, HasEntered, HasCollided, IsStruck, IsStruckIn, CoversEgo}
+use Rattle.spot_claims.specs.Headline.{BeginsWith, ClaimsOf, Claims, Headline}
 use Rattle.spot_claims.specs.Outcomes.{MayBeInput, PassesAll, TakesOutput, WritesOutput}
-use Rattle.spot_claims.specs.Outputs.{IsOutputSoFar, IsWritten, Writes}
+use Rattle.spot_claims.specs.Outputs.{IsOutputSoFar, IsWritten}
 use Rattle.spot_claims.specs.ParticipantClaims.{HoldsTick, IsAdmissible, IsCovered, CoversMover, CoversParticipants}
-use Rattle.spot_claims.specs.Problems.{chosen}
+use Rattle.spot_claims.specs.Problems.{ego_radius, chosen}
 use Rattle.spot_claims.specs.Runs.{Run, WriteFails}
 use Rattle.spot_claims.specs.Scenario.{IsScenario, IsScenarioOf}
 use Rattle.spot_claims.specs.Stages.{AreForReading, IsInputOf, IsInput}
@@ -70,26 +69,25 @@ read_none X o e h = subst (λ (x : Option Command). IfNone x X) e h
 task_reads : (task : Task) → IsBuilt task → ReadsInput task
 task_reads Predict h = tt
 task_reads Area h = tt
+task_reads Replay h = tt
 task_reads task h = absurd h
 
 task_whole : (task : Task) → IsBuilt task → IsBuiltWhole task
 task_whole Predict h = tt
 task_whole Area h = tt
+task_whole Replay h = tt
 task_whole task h = absurd h
-
-task_predicts : (task : Task) → IsBuilt task → PredictsTraffic task
-task_predicts Predict h = tt
-task_predicts Area h = tt
-task_predicts task h = absurd h
 
 task_input : (task : Task) (c : Command) (told : Option (List ℕ)) (bytes : List ℕ) → IsBuilt task → IsInputOf task c told bytes → (told ≡ Some bytes) × (length bytes ≤ MOST_BYTES)
 task_input Predict c told bytes built h = h
 task_input Area c told bytes built h = h
+task_input Replay c told bytes built h = h
 task_input task c told bytes built h = absurd built
 
 input_task : (task : Task) (c : Command) (told : Option (List ℕ)) (bytes : List ℕ) → IsBuilt task → told ≡ Some bytes → length bytes ≤ MOST_BYTES → IsInputOf task c told bytes
 input_task Predict c told bytes built e few = (e, few)
 input_task Area c told bytes built e few = (e, few)
+input_task Replay c told bytes built e few = (e, few)
 input_task task c told bytes built e few = absurd built
 
 may_task : (task : Task) (c : Command) (told : Option (List ℕ)) (bytes : List ℕ) → IsBuilt task → ((all : List ℕ) → told ≡ Some all → bytes ≡ all) → MayBeInput task c told bytes
@@ -97,14 +95,13 @@ may_task Predict c None bytes built same = tt
 may_task Predict c (Some all) bytes built same = same all refl
 may_task Area c None bytes built same = tt
 may_task Area c (Some all) bytes built same = same all refl
+may_task Replay c None bytes built same = tt
+may_task Replay c (Some all) bytes built same = same all refl
 may_task task c told bytes built same = absurd built
 
 module _ (c : Command) (built : IsBuilt c.task) where
   pub reads_input : ReadsInput c.task
   reads_input = task_reads c.task built
-
-  pub predicts : PredictsTraffic c.task
-  predicts = task_predicts c.task built
 
   pub is_built_whole : IsBuiltWhole c.task
   is_built_whole = task_whole c.task built
@@ -219,8 +216,39 @@ entered_carried s t c lines i states same h = record {
   ];
 }
 
-ego_carried : (s t : Scenario) (c : Command) (lines : List Line) → AreAlike s t → c.task ≡ Area → CoversEgo s c lines → CoversEgo t c lines
-ego_carried s t c lines same task h = record {
+-- the discs of recorded traffic are those of the other scenario of the bytes
+pub discs_same : (s t : Scenario) (radius i : ℕ) → AreAlike s t → discs s radius i ≡ discs t radius i
+unfolding discs
+discs_same s t radius i same = rw (same.fixed, same.movers) refl
+
+collided_carried : (s t : Scenario) (c : Command) (i : ℕ) (states : List State) → AreAlike s t → HasCollided s c i states → HasCollided t c i states
+collided_carried s t c i states same h = record {
+  step = h.step;
+  state = h.state;
+  early = h.early;
+  at = subst (λ (k : ℕ). slice_get states (h.step * k) ≡ Some h.state) same.step h.at;
+  disc = h.disc;
+  recorded = subst (λ (ds : List Disc). Includes ds h.disc) (discs_same s t (ego_radius c) h.step same) h.recorded;
+  inside = h.inside;
+}
+
+-- who is struck is so in the other scenario
+IsCarried : Scenario → Scenario → Command → List Line → Type 0
+IsCarried s t c lines = (i : ℕ) (states : List State) → IsStruck s c lines i states → IsStruck t c lines i states
+
+entered_over : (s t : Scenario) (c : Command) (lines : List Line) → AreAlike s t → c.task ≡ Area → IsCarried s t c lines
+unfolding IsCarried
+entered_over s t c lines same task = λ i states struck.
+    subst (λ (x : Task). IsStruckIn x t c lines i states) (sym task) (entered_carried s t c lines i states same (subst (λ (x : Task). IsStruckIn x s c lines i states) task struck))
+
+collided_over : (s t : Scenario) (c : Command) (lines : List Line) → AreAlike s t → c.task ≡ Replay → IsCarried s t c lines
+unfolding IsCarried
+collided_over s t c lines same task = λ i states struck.
+    subst (λ (x : Task). IsStruckIn x t c lines i states) (sym task) (collided_carried s t c i states same (subst (λ (x : Task). IsStruckIn x s c lines i states) task struck))
+
+ego_carried : (s t : Scenario) (c : Command) (lines : List Line) → AreAlike s t → IsCarried s t c lines → CoversEgo s c lines → CoversEgo t c lines
+unfolding IsCarried
+ego_carried s t c lines same over h = record {
   ego = h.ego;
   printed = h.printed;
   line = ego_line_carried s t c same h.ego h.line;
@@ -231,16 +259,14 @@ ego_carried s t c lines same task h = record {
     back : (i : ℕ) (state : State) (states : List State) → slice_get states (i * t.step) ≡ Some state → slice_get states (i * s.step) ≡ Some state
     back i state states at = subst (λ (k : ℕ). slice_get states (i * k) ≡ Some state) (sym same.step) at
 
-    over : (i : ℕ) (states : List State) → IsStruck s c lines i states → IsStruck t c lines i states
-    over i states struck = subst (λ (x : Task). IsStruckIn x t c lines i states) (sym task) (entered_carried s t c lines i states same (subst (λ (x : Task). IsStruckIn x s c lines i states) task struck))
-
 begins : (s t : Scenario) (c : Command) (mode : Mode) (lines : List Line) → AreAlike s t → BeginsWith mode s c lines → BeginsWith mode t c lines
 begins s t c mode lines same h = record { rest = h.rest; lines_are = h.lines_are ∙ ap (λ (k : ℕ). head_line mode ∷ time_line k c.steps ∷ h.rest) same.step }
 
 -- what the lines claim of a scenario they claim of another one of the bytes
 claims_carried : (task : Task) (s t : Scenario) (c : Command) (lines : List Line) → IsBuilt task → c.task ≡ task → AreAlike s t → ClaimsOf task s c lines → ClaimsOf task t c lines
 claims_carried Predict s t c lines built is same h = (begins s t c mode.Predict lines same h.0, carried s t c lines same h.1)
-claims_carried Area s t c lines built is same h = (begins s t c mode.Area lines same h.0, carried s t c lines same h.1, ego_carried s t c lines same is h.2)
+claims_carried Area s t c lines built is same h = (begins s t c mode.Area lines same h.0, carried s t c lines same h.1, ego_carried s t c lines same (entered_over s t c lines same is) h.2)
+claims_carried Replay s t c lines built is same h = (begins s t c mode.Replay lines same h.0, ego_carried s t c lines same (collided_over s t c lines same is) h.1)
 claims_carried task s t c lines built is same h = absurd built
 
 done_written : (s : Scenario) (c : Command) (before after : Option (List ℕ)) (status : Status) → IsDone status → Tells s c before after status → HasWritten s c before after status

@@ -1,8 +1,8 @@
 -- How many participants and octagons a prediction has.
-use Rattle.std.proofs.Common.{◌≡◌, ◌∙◌, ℕ, zero, suc, ◌+◌, ◌≤◌, List, [], ◌∷◌, length, sym, ap, refl, arith}
+use Rattle.std.proofs.Common.{◌≡◌, ◌∙◌, ℕ, ◌≤◌, List, [], ◌∷◌, length, sym, ap, arith}
 use Rattle.std.specs.List.{AllByRecursion}
 use Rattle.std.proofs.lemmas.List.{length-map}
-use Rattle.spot_terms.specs.Lists.{Pairwise, numbers_below, numbers_from}
+use Rattle.spot_terms.specs.Lists.{Pairwise, numbers_below}
 use Rattle.spot_terms.specs.Reach.{interval_numbers}
 use Rattle.spot_terms.specs.Cells.{Lane}
 use Rattle.spot_terms.specs.Participants.{starting}

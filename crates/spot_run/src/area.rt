@@ -1,7 +1,7 @@
 //! The report of the drivable area of a scenario's ego: its traffic, its ego, and its base sets step by step. All memory is
 //! taken before the first byte is written: what writes takes no allocator, and neither does a step of a run.
 
-ghost use Rattle.std.specs.Prelude.{◌≡◌, ℕ, ◌≤◌, List, ◌++◌, length, IfOk, IfErr};
+ghost use Rattle.std.specs.Prelude.{◌≡◌, ℕ, ◌≤◌, List, [], ◌++◌, length, IfOk, IfErr};
 ghost use Rattle.std.specs.List.{AllByRecursion};
 ghost use Rattle.lanelets.specs.Buildable.{AreBuildable};
 ghost use Rattle.base_sets.specs.Values.{course_with};
@@ -19,13 +19,13 @@ ghost use Rattle.spot_terms.specs.StepLists.{IsFirstList};
 ghost use Rattle.spot_terms.specs.declared.command.Task.TheVariants.{Area};
 ghost use Rattle.spot_terms.specs.declared.status.Status.TheVariants.{WriteFault};
 ghost use Rattle.spot_claims.specs.Outputs.{IsWritten};
-ghost use Rattle.spot_run.specs.Areas.{count_at, hits_at, range_at, CanOpen, IsPastArea, StatusAt, opening_text, WritesBehind};
+ghost use Rattle.spot_run.specs.Areas.{CanOpen, IsPastArea, StatusAt, opening_text, WritesBehind};
 ghost use Rattle.spot_run.specs.Tells.{TakesFor, Tells};
 ghost use Rattle.spot_run.specs.Writes.{IsPredicted};
 
 use crate::report::write_traffic;
 use crate::traffic::prediction_of;
-use area_report::{ego_of, write_area};
+use area_report::{Unrecorded, ego_of, write_area};
 use area_run::{AreaFault, AreaRun, Verdict};
 use carve::Occupied;
 use participants::Prediction;
@@ -34,22 +34,22 @@ use spot_terms::{Command, MOST_STEPS, Mode, Scenario, Status, Which};
 use std::alloc::Global;
 use text_report::{EgoLine, write_ego};
 
-// A run of the ego over a prediction, with room for all its steps, or the status that says why there is none.
-fn open_run<'o>(
+/// A run of the ego over these pieces, with room for all its steps, or the status that says why there is none.
+pub(crate) fn open_run<'o, O: Occupied>(
     alloc: Global,
     scenario: &Scenario,
-    prediction: &'o Prediction,
+    pieces: &'o O,
     ego: &EgoLine,
     steps: u32,
-) -> Result<AreaRun<'o, Prediction>, Status>
-    requires { CanOpen scenario.now prediction.now ego.now steps }
-    ensures ok { IfOk result (IsOpened prediction.now (plan_with ego.now.s ego.now.e ego.now.grid scenario.now.step) steps (count_at prediction.now) (hits_at prediction.now)) }
-    ensures within { IfOk result (λ _. IsWithinArea (course_with ego.now.s ego.now.e ego.now.grid scenario.now.step) (count_at prediction.now) (range_at prediction.now) steps) }
-    ensures err { IfErr result (IsPastArea (course_with ego.now.s ego.now.e ego.now.grid scenario.now.step) (count_at prediction.now) (range_at prediction.now) steps) }
+) -> Result<AreaRun<'o, O>, Status>
+    requires { CanOpen scenario.now (O.last pieces.now) (O.far pieces.now) ego.now steps }
+    ensures ok { IfOk result (IsOpened pieces.now (plan_with ego.now.s ego.now.e ego.now.grid scenario.now.step) steps (O.count pieces.now) (O.hits pieces.now)) }
+    ensures within { IfOk result (λ _. IsWithinArea (course_with ego.now.s ego.now.e ego.now.grid scenario.now.step) (O.count pieces.now) (O.range pieces.now) steps) }
+    ensures err { IfErr result (IsPastArea (course_with ego.now.s ego.now.e ego.now.grid scenario.now.step) (O.count pieces.now) (O.range pieces.now) steps) }
 {
     match AreaRun::open(
         alloc,
-        prediction,
+        pieces,
         &ego.s,
         &ego.e,
         &ego.grid,
@@ -97,15 +97,15 @@ fn write_lines<O: Occupied, K: Sink>(
     requires few { AllByRecursion (λ p. length p.octs ≤ MOST_STEPS) prediction.now.participants }
     requires first { run.old.at ≡ 0 }
     requires list { IsFirstList (course_of run.old.plan) (O.count run.old.o) (O.hits run.old.o) run.old.sets }
-    requires room { (text : List ℕ) → IsStepsText (course_of run.old.plan) (O.count run.old.o) (O.hits run.old.o) run.old.steps text → K.takes sink.old (length (opening_text scenario.now run.old.steps prediction.now ego.now ++ text)) }
-    ensures { WritesBehind (opening_text scenario.now run.old.steps prediction.now ego.now) (course_of run.old.plan) (O.count run.old.o) (O.hits run.old.o) run.old.steps K.Sink sink.old sink.new run.new.at run.new.sets result }
+    requires room { (text : List ℕ) → IsStepsText (λ _. []) (course_of run.old.plan) (O.count run.old.o) (O.hits run.old.o) run.old.steps text → K.takes sink.old (length (opening_text scenario.now run.old.steps prediction.now ego.now ++ text)) }
+    ensures { WritesBehind (opening_text scenario.now run.old.steps prediction.now ego.now) (λ _. []) (course_of run.old.plan) (O.count run.old.o) (O.hits run.old.o) run.old.steps K.Sink sink.old sink.new run.new.at run.new.sets result }
 {
     write_opening(sink, scenario, prediction, ego, run.steps())?;
-    write_area(run, sink)
+    write_area(run, &Unrecorded, sink)
 }
 
-// The status of a run that is done.
-fn status_of<O: Occupied>(run: &AreaRun<'_, O>) -> Status
+/// The status of a run that is done.
+pub(crate) fn status_of<O: Occupied>(run: &AreaRun<'_, O>) -> Status
     ensures { StatusAt run.now.at run.now.sets result }
 {
     match run.verdict() {

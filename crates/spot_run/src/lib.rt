@@ -3,6 +3,7 @@
 
 mod area;
 mod load;
+mod replay;
 mod report;
 mod run;
 mod traffic;

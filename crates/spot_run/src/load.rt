@@ -1,10 +1,11 @@
 //! From a source to a scenario.
 
 ghost use Rattle.std.specs.Prelude.{◌≡◌, ℕ, ◌≤◌, List, Some, IfOk, IfErr, IsErrOf};
+ghost use Rattle.std.specs.List.{AllByRecursion};
 ghost use Rattle.lanelets.specs.Buildable.{AreBuildable};
 ghost use Rattle.spot_terms.specs.Causes.{Rose};
 ghost use Rattle.spot_terms.specs.Ids.{HaveUniqueIds};
-ghost use Rattle.spot_terms.specs.Ranges.{IsInRange};
+ghost use Rattle.spot_terms.specs.Ranges.{AreStatesInRange, IsFew, IsInRange};
 ghost use Rattle.spot_claims.specs.Scenario.{IsScenario, IsScenarioOf};
 ghost use Rattle.spot_run.specs.Loads.{Loads, IsLoadFault, HasNone};
 
@@ -20,6 +21,8 @@ fn scenario_of(alloc: Global, tree: &Tree) -> Result<Scenario, Status>
     ensures range { IfOk result (λ s. IsInRange s) }
     ensures ids { IfOk result (λ s. HaveUniqueIds s) }
     ensures lanes { IfOk result (λ s. AreBuildable s.lanelets.entries) }
+    ensures few { IfOk result (λ s. IsFew s) }
+    ensures states { IfOk result (λ s. AllByRecursion AreStatesInRange s.movers) }
     ensures none { IfErr result (λ status. HasNone tree.now status) }
 {
     match read_scenario(alloc, tree) {
@@ -36,6 +39,8 @@ pub fn load<S: Source>(alloc: Global, source: &mut S) -> Result<Scenario, Status
     ensures range { IfOk result (λ s. IsInRange s) }
     ensures ids { IfOk result (λ s. HaveUniqueIds s) }
     ensures lanes { IfOk result (λ s. AreBuildable s.lanelets.entries) }
+    ensures few { IfOk result (λ s. IsFew s) }
+    ensures states { IfOk result (λ s. AllByRecursion AreStatesInRange s.movers) }
     ensures answers { IfErr result (λ status. IsLoadFault status) }
     ensures later { S.faults source.old ≤ S.faults source.new }
     ensures fault { IsErrOf result Status.ReadFault → Rose (S.faults source.old) (S.faults source.new) }

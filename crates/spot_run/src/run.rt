@@ -1,10 +1,11 @@
 //! The top call.
 
 ghost use Rattle.std.specs.Prelude.{◌≡◌, ◌↔◌, ◌≤◌, IsTrue};
+ghost use Rattle.std.specs.List.{AllByRecursion};
 ghost use Rattle.lanelets.specs.Buildable.{AreBuildable};
 ghost use Rattle.spot_terms.specs.Causes.{Rose};
 ghost use Rattle.spot_terms.specs.Ids.{HaveUniqueIds};
-ghost use Rattle.spot_terms.specs.Ranges.{IsCommandInRange, IsInRange};
+ghost use Rattle.spot_terms.specs.Ranges.{AreStatesInRange, IsCommandInRange, IsFew, IsInRange};
 ghost use Rattle.spot_run.specs.RunOf.{run_of};
 ghost use Rattle.spot_run.specs.Tells.{TakesFor, Tells};
 ghost use Rattle.spot_run.specs.Writes.{TakesPrediction, WritesPrediction};
@@ -18,6 +19,7 @@ ghost use Rattle.spot_claims.specs.Stages.{AreForReading};
 
 use crate::area::write_area_report;
 use crate::load::load;
+use crate::replay::write_replay;
 use crate::report::write_prediction;
 use crate::traffic::prediction_of;
 use spot_io::{Sink, Source};
@@ -51,8 +53,8 @@ fn is_built(task: Task) -> bool
     ensures { IsTrue result ↔ IsBuilt task }
 {
     match task {
-        Task::Predict | Task::Area => true,
-        Task::Replay | Task::Draw | Task::Sample => false,
+        Task::Predict | Task::Area | Task::Replay => true,
+        Task::Draw | Task::Sample => false,
     }
 }
 
@@ -66,6 +68,8 @@ fn write_output<K: Sink>(
     requires range { IsInRange scenario.now }
     requires ids { HaveUniqueIds scenario.now }
     requires lanes { AreBuildable scenario.now.lanelets.entries }
+    requires few { IsFew scenario.now }
+    requires states { AllByRecursion AreStatesInRange scenario.now.movers }
     requires command { IsCommandInRange command.now }
     requires built { IsBuilt command.now.task }
     requires room { TakesFor scenario.now command.now (λ n. K.takes sink.old n) }
@@ -77,14 +81,15 @@ fn write_output<K: Sink>(
     match command.task {
         Task::Predict => write_report(alloc, scenario, command.steps, sink),
         Task::Area => write_area_report(alloc, scenario, command, sink),
-        Task::Replay | Task::Draw | Task::Sample => Status::Refused(Code::NotYet, 0),
+        Task::Replay => write_replay(alloc, scenario, command, sink),
+        Task::Draw | Task::Sample => Status::Refused(Code::NotYet, 0),
     }
 }
 
 /// Reads a scenario and writes the report that the words ask for. The first word is the program's own name.
 ///
-/// What is built so far are the modes `predict` and `area`; every other mode is refused as `NotYet`. All values of a
-/// prediction are computed before the first byte is written, and all memory for the steps of an area is taken before it:
+/// What is built so far are the modes `predict`, `area` and `replay`; every other mode is refused as `NotYet`. All values of a
+/// prediction are computed before the first byte is written, and so is recorded traffic; all memory for the steps of an area is taken before it:
 /// the base sets of a step are written before the next step is computed. Writing takes no memory. After a refusal, a limit,
 /// a read fault or want of memory nothing was written; after a write fault a front of the report was, or of what it begins
 /// with.

@@ -77,6 +77,43 @@ const FAST: &[u8] =
 const LONG_STEPS: &[u8] =
     br#"["commonRoad",{"commonRoadVersion":"2020a","timeStepSize":"1"},["planningProblem",{"id":"1"},["initialState",["position",["point",["x","0"],["y","0"]]],["orientation",["exact","0"]],["velocity",["exact","0"]],["time",["exact","0"]]]]]"#;
 
+const STRUCK_AT_ONCE: &[u8] = b"spot 1 replay
+time 100 5
+ego 1 8 50000 2000000 1000000 0 0 -1 1 -1 1
+disc 0 2 0 0 50900000
+count 0 0
+empty 0
+";
+
+const ROW_END_ON_CIRCLE: &[u8] =
+    br#"["commonRoad",{"commonRoadVersion":"2020a","timeStepSize":"0.1"},["staticObstacle",{"id":"2"},["type","unknown"],["shape",["circle",["radius","0.766665"]]],["initialState",["position",["point",["x","1.333332"],["y","0"]]],["orientation",["exact","0"]],["velocity",["exact","0"]],["time",["exact","0"]]]],["planningProblem",{"id":"1"},["initialState",["position",["point",["x","0"],["y","0"]]],["orientation",["exact","0"]],["velocity",["exact","0"]],["time",["exact","0"]]]]]"#;
+
+const STRUCK_ON_CIRCLE: &[u8] = b"spot 1 replay
+time 100 1
+ego 1 8 50000 2000000 1000000 0 0 -1 1 -1 1
+disc 0 2 1333332 0 1666665
+count 0 0
+empty 0
+";
+
+const ROW_END_OUTSIDE: &[u8] =
+    br#"["commonRoad",{"commonRoadVersion":"2020a","timeStepSize":"0.1"},["staticObstacle",{"id":"2"},["type","unknown"],["shape",["circle",["radius","0.766664"]]],["initialState",["position",["point",["x","1.333332"],["y","0"]]],["orientation",["exact","0"]],["velocity",["exact","0"]],["time",["exact","0"]]]],["planningProblem",{"id":"1"},["initialState",["position",["point",["x","0"],["y","0"]]],["orientation",["exact","0"]],["velocity",["exact","0"]],["time",["exact","0"]]]]]"#;
+
+const BESIDE_A_DISC: &[u8] = b"spot 1 replay
+time 100 1
+ego 1 8 50000 2000000 1000000 0 0 -1 1 -1 1
+disc 0 2 1333332 0 1666664
+set 0 0 0 x 2 0 -1 0 1 y 2 0 -1 0 1
+count 0 1
+disc 1 2 1333332 0 1666664
+set 1 -1 -1 x 6 -40100 -801 -40001 -801 -1 -401 -1 401 -99 401 -40100 -400 y 6 -40100 -801 -40001 -801 -1 -401 -1 401 -99 401 -40100 -400
+set 1 -1 0 x 6 -40100 -801 -40001 -801 -1 -401 -1 401 -99 401 -40100 -400 y 6 0 -401 100 -400 40100 400 40100 801 40000 801 0 401
+set 1 0 -1 x 4 0 -401 2 -401 2 402 0 401 y 6 -40100 -801 -40001 -801 -1 -401 -1 401 -99 401 -40100 -400
+set 1 0 0 x 4 0 -401 1 -401 1 402 0 401 y 6 0 -401 100 -400 40100 400 40100 801 40000 801 0 401
+count 1 4
+open
+";
+
 fn words(alloc: Global, line: &[&str]) -> Result<Vec<String>, Fail> {
     let mut words = Vec::new(alloc);
     for word in line {
@@ -181,7 +218,7 @@ fn what_is_no_report_says_why(rt: HostRuntime) -> Result<(), Fail> {
     assert_eq!(rt; status, Status::Refused(Code::NotTree, 1));
     let (status, _) = run(rt.alloc(), &predict, br#"["commonRoad"]"#, &[], &[])?;
     assert_eq!(rt; status, Status::Refused(Code::Version, 0));
-    let (status, _) = run(rt.alloc(), &["spot", "replay"], CIRCLE, &[], &[])?;
+    let (status, _) = run(rt.alloc(), &["spot", "draw"], CIRCLE, &[], &[])?;
     assert_eq!(rt; status, Status::Refused(Code::NotYet, 0));
     let (status, _) = run(rt.alloc(), &["spot", "fly"], CIRCLE, &[], &[])?;
     assert_eq!(rt; status, Status::BadWords);
@@ -241,5 +278,39 @@ fn a_write_fault_in_a_step_leaves_a_front(rt: HostRuntime) -> Result<(), Fail> {
     assert!(rt; sink.bytes.len() > 100);
     assert!(rt; sink.bytes.len() < FROM_REST.len());
     assert!(rt; FROM_REST.starts_with(sink.bytes.as_slice()));
+    Ok(())
+}
+
+#[test]
+fn who_stands_in_a_recorded_disc_has_no_area(rt: HostRuntime) -> Result<(), Fail> {
+    let line = ["spot", "replay", "--steps", "5"];
+    let (status, sink) = run(rt.alloc(), &line, INSIDE, &[], &[])?;
+    assert_eq!(rt; status, Status::Empty(0));
+    assert_eq!(rt; sink.bytes.as_slice(), STRUCK_AT_ONCE);
+    let line = ["spot", "replay", "--steps", "1"];
+    let (status, sink) = run(rt.alloc(), &line, ROW_END_ON_CIRCLE, &[], &[])?;
+    assert_eq!(rt; status, Status::Empty(0));
+    assert_eq!(rt; sink.bytes.as_slice(), STRUCK_ON_CIRCLE);
+    Ok(())
+}
+
+#[test]
+fn the_area_beside_a_recorded_disc(rt: HostRuntime) -> Result<(), Fail> {
+    let line = ["spot", "replay", "--steps", "1"];
+    let (status, sink) = run(rt.alloc(), &line, ROW_END_OUTSIDE, &[], &[])?;
+    assert_eq!(rt; status, Status::Open);
+    assert_eq!(rt; sink.bytes.as_slice(), BESIDE_A_DISC);
+    Ok(())
+}
+
+#[test]
+fn a_replay_that_is_refused_writes_nothing(rt: HostRuntime) -> Result<(), Fail> {
+    let (status, sink) = run(rt.alloc(), &["spot", "replay"], CIRCLE, &[], &[])?;
+    assert_eq!(rt; status, Status::Refused(Code::NoProblem, 0));
+    assert!(rt; sink.bytes.is_empty());
+    let line = ["spot", "replay", "--steps", "10", "--ego-speed", "100"];
+    let (status, sink) = run(rt.alloc(), &line, LONG_STEPS, &[], &[])?;
+    assert_eq!(rt; status, Status::Limit(Which::AreaTooWide, 7, 78_012));
+    assert!(rt; sink.bytes.is_empty());
     Ok(())
 }

@@ -1,4 +1,4 @@
-use Rattle.std.proofs.Common.{true, false, Err, refl, ap}
+use Rattle.std.proofs.Common.{Err, refl, ap}
 use Rattle.spot_terms.specs.declared.command.Command.{Command}
 use Rattle.spot_terms.specs.declared.status.Status.TheVariants.{BadWords, Refused, Memory}
 use Rattle.spot_terms.specs.declared.status.Code.TheVariants.{NotYet}
