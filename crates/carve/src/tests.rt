@@ -147,7 +147,7 @@ const BRIDGE: Rectangle = Rectangle {
     y: (3_000_000, 4_000_000),
 };
 
-/// 200 cars in the row 0, which they cross, and in parts of the rows beside it.
+/// 200 cars in the row above the x axis, which they cross, and in parts of the rows beside it.
 const CROWD: Rectangle = Rectangle {
     last: 3,
     count: 200,
