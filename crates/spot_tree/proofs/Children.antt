@@ -1,11 +1,12 @@
 -- The numbers of children are those of elements.
-use Rattle.std.proofs.Common.{◌≡◌, ◌∙◌, ℕ, ◌+◌, ◌<◌, ◌≤◌, Bool, true, false, cond, List, [], ◌∷◌, ◌++◌, length, ap, sym, refl, subst, arith, length-append}
+use Rattle.std.proofs.Common.{◌≡◌, ◌∙◌, ℕ, ◌+◌, ◌<◌, ◌≤◌, Bool, true, false, cond, List, [], ◌∷◌, ◌++◌, length, None, ap, sym, refl, subst, arith, length-append}
 use Rattle.std.specs.List.{All, AllByRecursion}
 use Rattle.std.proofs.lemmas.List.Elements.{All-from_recursion}
 use Rattle.serde_json.specs.Data.{Data, null, boolean, number, string, array, object, Items, no_items, item}
 use Rattle.spot_terms.specs.Lists.{AreDistinct}
 use Rattle.spot_claims.specs.Tree.{Element, wanted, wanted_in, wanted_behind_name, wanted_behind_attributes, wanted_of, content, is_string, numbered, children_from}
-use Rattle.spot_claims.specs.Tree.{IsTree, Rising, all_children}
+use Rattle.spot_claims.specs.Tree.{IsTree, Rising, all_children, IsTreeOf, fault_of}
+use Rattle.spot_tree.proofs.Counting.{few_elements}
 use Rattle.spot_tree.proofs.Numbering.{numbered-append, behind_name_is, length-numbered, wanted_other}
 use Rattle.spot_tree.proofs.Parents.{once_in}
 use Rattle.spot_terms.proofs.ListLemmas.{all_append}
@@ -104,3 +105,18 @@ tree_is_whole d es s few e =
       rising = λ k x h. let good = All-from_recursion (Good (length es)) es inside_all k x h in good.1;
       once = subst (λ (xs : List Element). AreDistinct (0 ∷ all_children xs)) (sym e) (once_in d s);
     }
+
+-- the tree of bytes is a tree
+not_a_string : (d : Data) → fault_of d ≡ None → is_string d ≡ false
+not_a_string null h = refl
+not_a_string (boolean b) h = refl
+not_a_string (number n) h = refl
+not_a_string (string s) h = cc
+not_a_string (array ds) h = refl
+not_a_string (object ms) h = refl
+
+pub tree_of_is_tree : (bytes : List ℕ) (tree same : List Element) → length bytes ≤ 67108864 → IsTreeOf bytes tree → same ≡ tree → IsTree same
+tree_of_is_tree bytes tree same few is e =
+    let s = not_a_string is.value is.sound in
+    let w = whole_is is.value s in
+    tree_is_whole is.value same s (omega (arith, few, few_elements bytes is.value is.json.1, ap length w)) (e ∙ (is.elements ∙ ap (numbered 0) w))

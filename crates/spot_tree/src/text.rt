@@ -52,7 +52,7 @@ fn before_blank(text: &str) -> Option<&str>
 }
 
 // The text without the spaces, tabs, line feeds and carriage returns at both ends.
-fn trim(text: &str) -> &str
+pub(crate) fn trim(text: &str) -> &str
     ensures { result.now ≡ trimmed text.now }
 {
     let mut rest = text;

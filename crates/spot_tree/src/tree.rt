@@ -8,6 +8,8 @@ ghost use Rattle.spot_tree.specs.Answers.{ReadsTree};
 use crate::TreeFault;
 use crate::attributes::value_of;
 use crate::node::Node;
+use crate::plain::read_plain;
+use crate::slots::Slots;
 use crate::walk::add_elements;
 use serde_json::Value;
 use spot_terms::MOST_BYTES;
@@ -18,19 +20,26 @@ use std::marker::Model;
 /// 67,108,864.
 #[derive(Drop)]
 pub struct Tree {
-    nodes: Vec<Node>,
+    form: Form,
+}
+
+/// The elements of a plain text, or of any.
+#[derive(Drop)]
+pub(crate) enum Form {
+    Plain(Slots),
+    Any(Vec<Node>),
 }
 
 impl Model for Tree {
     ghost use Rattle.std.specs.Prelude.{List};
     ghost use Rattle.spot_claims.specs.Tree.{Element, IsTree};
-    ghost use Rattle.spot_tree.specs.Views.{elements};
+    ghost use Rattle.spot_tree.specs.Forms.{form_elements};
 
     ghost Value = { List Element };
 
-    ghost view = { λ t. elements t.nodes.items };
+    ghost view = { λ t. form_elements t.form };
 
-    ghost invariant = { λ t. IsTree (elements t.nodes.items) };
+    ghost invariant = { λ t. IsTree (form_elements t.form) };
 }
 
 impl Tree {
@@ -42,7 +51,10 @@ impl Tree {
         ensures few { result ≤ MOST_BYTES }
         ensures tree { IsTree self.now }
     {
-        self.nodes.len() as u32
+        match &self.form {
+            Form::Plain(slots) => slots.len() as u32,
+            Form::Any(nodes) => nodes.len() as u32,
+        }
     }
 
     /// The name of an element, which is below `len`.
@@ -50,7 +62,10 @@ impl Tree {
         requires { e < length self.now }
         ensures { result.now ≡ (element_in self.now e).name }
     {
-        self.nodes[e as usize].name.as_str()
+        match &self.form {
+            Form::Plain(slots) => slots.name(e as usize),
+            Form::Any(nodes) => nodes[e as usize].name.as_str(),
+        }
     }
 
     /// The strings in an element, which is below `len`, joined in order, without blanks at both ends.
@@ -58,7 +73,10 @@ impl Tree {
         requires { e < length self.now }
         ensures { result.now ≡ text_at self.now e }
     {
-        self.nodes[e as usize].text.as_str()
+        match &self.form {
+            Form::Plain(slots) => slots.text(e as usize),
+            Form::Any(nodes) => nodes[e as usize].text.as_str(),
+        }
     }
 
     /// How many attributes an element has, which is below `len`.
@@ -66,7 +84,10 @@ impl Tree {
         requires { e < length self.now }
         ensures { result ≡ length (element_in self.now e).attributes }
     {
-        self.nodes[e as usize].attributes.len()
+        match &self.form {
+            Form::Plain(slots) => slots.attributes(e as usize).len(),
+            Form::Any(nodes) => nodes[e as usize].attributes.len(),
+        }
     }
 
     /// The text of an element's attribute with this key, exactly where it has one. The element is below `len`.
@@ -74,7 +95,10 @@ impl Tree {
         requires { e < length self.now }
         ensures { option_map (λ s. s.now) result ≡ attribute_at self.now e key.now }
     {
-        value_of(&self.nodes[e as usize].attributes, key)
+        match &self.form {
+            Form::Plain(slots) => value_of(slots.attributes(e as usize), key),
+            Form::Any(nodes) => value_of(&nodes[e as usize].attributes, key),
+        }
     }
 
     /// The first child of this name, exactly where there is one. The element is below `len`, and so is the child.
@@ -99,7 +123,10 @@ impl Tree {
         ensures within { All (λ c. c < length self.now) result.now }
         ensures rising { Rising 0 result.now }
     {
-        self.nodes[e as usize].children.as_slice()
+        match &self.form {
+            Form::Plain(slots) => slots.children(e as usize),
+            Form::Any(nodes) => nodes[e as usize].children.as_slice(),
+        }
     }
 }
 
@@ -113,6 +140,20 @@ pub fn read_tree(alloc: Global, bytes: &[u8]) -> Result<Tree, TreeFault>
     requires { length bytes.now ≤ MOST_BYTES }
     ensures { ReadsTree bytes.now result }
 {
+    match read_plain(alloc, bytes) {
+        Ok(Some(slots)) => Ok(Tree {
+            form: Form::Plain(slots),
+        }),
+        Ok(None) => read_any(alloc, bytes),
+        Err(_) => Err(TreeFault::Memory),
+    }
+}
+
+// The same, for any text.
+fn read_any(alloc: Global, bytes: &[u8]) -> Result<Tree, TreeFault>
+    requires { length bytes.now ≤ MOST_BYTES }
+    ensures { ReadsTree bytes.now result }
+{
     let value = match Value::from_slice(alloc, bytes) {
         Ok(value) => value,
         Err(error) if error.is_memory() => return Err(TreeFault::Memory),
@@ -123,5 +164,7 @@ pub fn read_tree(alloc: Global, bytes: &[u8]) -> Result<Tree, TreeFault>
     }
     let mut nodes = Vec::new(alloc);
     add_elements(alloc, value, &mut nodes)?;
-    Ok(Tree { nodes })
+    Ok(Tree {
+        form: Form::Any(nodes),
+    })
 }

@@ -65,7 +65,7 @@ fn add_array(alloc: Global, items: Vec<Value>, nodes: &mut Vec<Node>) -> Result<
 }
 
 // Gives an element its text and its children.
-fn set_content(nodes: &mut Vec<Node>, at: usize, text: String, children: Vec<u32>)
+pub(crate) fn set_content(nodes: &mut Vec<Node>, at: usize, text: String, children: Vec<u32>)
     requires { at < length nodes.old.items }
     ensures { elements nodes.new.items ≡ slice_set (elements nodes.old.items) at (filled (slice_index_or (elements nodes.old.items) at no_element) (string_bytes text) children.items) }
 {
