@@ -2,17 +2,12 @@
 use Rattle.std.proofs.Common.{◌≡◌, inl, inr, ℕ, ◌+◌, arith, refl, sym, ◌∙◌, subst, List, [], ◌∷◌, ◌++◌, length, length-append}
 use Rattle.std.specs.Prelude.{slice_get, Some, None, Option}
 use Rattle.std.proofs.lemmas.Option.{none-some, same_Some}
-use Rattle.lane_paths.specs.Edges.{AreFirst}
+use Rattle.lane_paths.specs.Edges.{AreFirst, AreNone}
 use Rattle.spot_terms.proofs.ItemPlaces.{get_last, get_either}
 
 -- an empty list has no length
-none_there : (i m : ℕ) → slice_get {X = Option ℕ} [] i ≡ Some (Some m) → ⊥
+pub none_there : (i m : ℕ) → slice_get {X = Option ℕ} [] i ≡ Some (Some m) → ⊥
 none_there i m e = none-some (Some m) e
-
--- n items, none of which is a length
-pub record AreNone (n : ℕ) (lengths : List (Option ℕ)) : Type 0 where
-  pub count : length lengths ≡ n
-  pub none : (i m : ℕ) → slice_get lengths i ≡ Some (Some m) → ⊥
 
 -- of no items
 pub none_none : (lengths : List (Option ℕ)) → lengths ≡ [] → AreNone 0 lengths

@@ -15,3 +15,4 @@ pub mod ShortestLengthLaws
 pub mod LabelLaws
 pub mod LengthLists
 pub mod LinkLaws
+pub mod ClosedLaws

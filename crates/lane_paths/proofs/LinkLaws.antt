@@ -128,7 +128,7 @@ pub entries_all : (lanes : List Lane) (p : Pt) (i c k m : ℕ) (ahead : List ℕ
 entries_all lanes p i c k m ahead first now h g = subst (λ (z : List ℕ). Relaxes (LinksToEntries lanes p i c z) m first now) (take_all k ahead h) g
 
 -- what is entered is the cell itself, or an entry ahead
-end_or_entry : (lanes : List Lane) (p : Pt) (c j : ℕ) (v : List Pt) → Enters lanes p c j v → (j ≡ c) ⊎ ((d : ℕ) × IsAhead lanes (cells lanes) c d × (j ≡ entry_at lanes p d))
+pub end_or_entry : (lanes : List Lane) (p : Pt) (c j : ℕ) (v : List Pt) → Enters lanes p c j v → (j ≡ c) ⊎ ((d : ℕ) × IsAhead lanes (cells lanes) c d × (j ≡ entry_at lanes p d))
 end_or_entry lanes p c _ _ (to_end a g) = inl refl
 end_or_entry lanes p c _ _ (to_entry d a s g) = inr (d, s, refl)
 
@@ -176,12 +176,16 @@ entry_cell : (lanes : List Lane) (p : Pt) (c d i : ℕ) (w : List Pt) → d < le
 entry_cell lanes p c d _ _ l (from_start s k b) e = absurd (omega (arith, l, e))
 entry_cell lanes p c d _ _ l (from_entry f a g b) e = subst (λ (z : ℕ). IsBeside lanes (cells lanes) c z) (omega (arith, e)) b
 
--- the links of the entry of a cell, of the waypoint as the code makes it
+-- the entry of a cell is a waypoint, as the code makes it
+pub entry_waypoint : (lanes : List Lane) (p : Pt) (d m : ℕ) (a : NetCell) (entry : Portal) (shape : Poly) → slice_get (cells lanes) d ≡ Some a → entry ≡ a.entry → IsHullOf (entry.0 ∷ entry.1 ∷ []) shape → IsWaypoint lanes p (entry_at lanes p d) d (record { cell = d; length = m; shape = shape })
+entry_waypoint lanes p d m a entry shape cell e hull = (entry_of a, from_entry d a cell here, subst (λ (z : Portal). IsHullOf (z.0 ∷ z.1 ∷ []) shape) e hull)
+
+-- its links
 pub entry_links : (lanes : List Lane) (p : Pt) (d m : ℕ) (a : NetCell) (entry : Portal) (shape : Poly) (before after : ShortestLengths) → slice_get (cells lanes) d ≡ Some a → entry ≡ a.entry → IsHullOf (entry.0 ∷ entry.1 ∷ []) shape
     → ((q : Pt) (i : ℕ) → IsWaypoint lanes q i d (record { cell = d; length = m; shape = shape }) → Relaxes (LinksBeside lanes q i d) m before after) → Relaxes (LinksOf lanes p (entry_at lanes p d)) m before after
 entry_links lanes p d m a entry shape before after cell e hull h =
     relaxes_as (LinksBeside lanes p (entry_at lanes p d) d) (LinksOf lanes p (entry_at lanes p d)) m before after
-    (h p (entry_at lanes p d) (entry_of a, from_entry d a cell here, subst (λ (z : Portal). IsHullOf (z.0 ∷ z.1 ∷ []) shape) e hull))
+    (h p (entry_at lanes p d) (entry_waypoint lanes p d m a entry shape cell e hull))
     (λ x (c, b, (from, l)). (from, (c, l)))
     (λ x (from, (c, l)). (c, entry_cell lanes p c d x.from l.w (slice_get_within (cells lanes) d a cell) l.leaves from, (from, l)))
 
@@ -210,14 +214,18 @@ starts_more lanes p k starts first before after inside g h =
       | inr last ↦ inr (c, subst (λ (z : ℕ). IsBeside lanes (cells lanes) c z) last b, (from, m))
     ])
 
--- the same, of the waypoint as the code makes it
+-- the start is a waypoint, as the code makes it
+pub start_waypoint : (lanes : List Lane) (p : Pt) (k : ℕ) (starts : List ℕ) (shape : Poly) → k < length starts → AllByRecursion (IsStartCell lanes p) starts → IsHullOf (p ∷ []) shape → IsWaypoint lanes p (start_at lanes p) (get_or starts k 0) (record { cell = get_or starts k 0; length = 0; shape = shape })
+start_waypoint lanes p k starts shape inside held hull = (p ∷ [], from_start (get_or starts k 0) (all_at (IsStartCell lanes p) starts k 0 held inside) here, hull)
+
+-- one more start cell, of this waypoint
 pub starts_step : (lanes : List Lane) (p : Pt) (k : ℕ) (starts : List ℕ) (shape : Poly) (first before after : ShortestLengths) → k < length starts → AllByRecursion (IsStartCell lanes p) starts → IsHullOf (p ∷ []) shape
     → Relaxes (LinksFromStart lanes p (take k starts)) 0 first before
     → ((q : Pt) (i : ℕ) → IsWaypoint lanes q i (get_or starts k 0) (record { cell = get_or starts k 0; length = 0; shape = shape }) → Relaxes (LinksBeside lanes q i (get_or starts k 0)) 0 before after)
     → Relaxes (LinksFromStart lanes p (take (k + 1) starts)) 0 first after
 starts_step lanes p k starts shape first before after inside held hull g h =
     starts_more lanes p k starts first before after inside g
-    (h p (start_at lanes p) (p ∷ [], from_start (get_or starts k 0) (all_at (IsStartCell lanes p) starts k 0 held inside) here, hull))
+    (h p (start_at lanes p) (start_waypoint lanes p k starts shape inside held hull))
 
 -- past the last one all were gone from
 pub starts_all : (lanes : List Lane) (p : Pt) (k : ℕ) (starts : List ℕ) (first now : ShortestLengths) → length starts ≤ k → Relaxes (LinksFromStart lanes p (take k starts)) 0 first now → Relaxes (LinksFromStart lanes p starts) 0 first now

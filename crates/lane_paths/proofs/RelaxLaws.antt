@@ -28,27 +28,31 @@ sum_set limit (Some m ∷ lengths) (suc i) n h low above = let l : sum_of limit 
 -- ---- one after the other
 
 -- what is at most one of two is at most the other
-most_on : (lengths : List (Option ℕ)) (i k m : ℕ) → k ≤ m → HasAtMost lengths i k → HasAtMost lengths i m
+pub most_on : (lengths : List (Option ℕ)) (i k m : ℕ) → k ≤ m → HasAtMost lengths i k → HasAtMost lengths i m
 most_on lengths i k m l h = (h.0, h.1, let t = h.2 in omega (arith, t, l))
 
 -- a length that is kept
 pub most_kept : (P : Edge → Type 0) (m i k : ℕ) (a b : ShortestLengths) → Relaxes P m a b → HasAtMost a.lengths.items i k → HasAtMost b.lengths.items i k
 most_kept P m i k a b g h = most_on b.lengths.items i h.0 k h.2 (g.kept i h.0 h.1)
 
--- nothing was done, where P holds of nothing
-pub relaxes_none : (P : Edge → Type 0) (m : ℕ) (s : ShortestLengths) → ((e : Edge) → P e → ⊥) → Relaxes P m s s
-relaxes_none P m s none = record {
+-- nothing was done, where no edge makes a length less
+pub relaxes_settled : (P : Edge → Type 0) (m : ℕ) (s : ShortestLengths) → ((e : Edge) → P e → m + e.gap ≤ s.limit → HasAtMost s.lengths.items e.to (m + e.gap)) → Relaxes P m s s
+relaxes_settled P m s settled = record {
   count_same = refl;
   limit_same = refl;
   many_same = refl;
   kept = λ i k h. (k, h, omega arith);
   made = λ i k h. inl h;
-  settled = λ e h low. absurd (none e h);
+  settled = settled;
   noted = λ d k h. inl h;
   waits = λ x h. h;
   within = λ x h. inl h;
   smaller = omega arith;
 }
+
+-- nothing was done, where P holds of nothing
+pub relaxes_none : (P : Edge → Type 0) (m : ℕ) (s : ShortestLengths) → ((e : Edge) → P e → ⊥) → Relaxes P m s s
+relaxes_none P m s none = relaxes_settled P m s (λ e h low. absurd (none e h))
 
 -- one after the other
 pub relaxes_then : (P Q R : Edge → Type 0) (m : ℕ) (a b c : ShortestLengths) → Relaxes P m a b → Relaxes Q m b c → ((e : Edge) → P e → R e) → ((e : Edge) → Q e → R e) → ((e : Edge) → R e → P e ⊎ Q e) → Relaxes R m a c
@@ -111,18 +115,7 @@ not_lesser s x to points n least (inr has) g gap low = let l = least g gap in mo
 
 -- the step made no length less
 pub step_none : (i j m : ℕ) (a b : List Pt) (s : ShortestLengths) → ((g : ℕ) → IsGap a b g → m + g ≤ s.limit → HasAtMost s.lengths.items j (m + g)) → Relaxes (StepsTo i j a b) m s s
-step_none i j m a b s none = record {
-  count_same = refl;
-  limit_same = refl;
-  many_same = refl;
-  kept = λ i k h. (k, h, omega arith);
-  made = λ i k h. inl h;
-  settled = λ e (from, to, gap) low. subst (λ (z : ℕ). HasAtMost s.lengths.items z (m + e.gap)) (sym to) (none e.gap gap low);
-  noted = λ d k h. inl h;
-  waits = λ x h. h;
-  within = λ x h. inl h;
-  smaller = omega arith;
-}
+step_none i j m a b s none = relaxes_settled (StepsTo i j a b) m s (λ e (from, to, gap) low. subst (λ (z : ℕ). HasAtMost s.lengths.items z (m + e.gap)) (sym to) (none e.gap gap low))
 
 -- what is known of a step that made a length less
 pub record IsStep (j n : ℕ) (before after : ShortestLengths) : Type 0 where

@@ -32,6 +32,11 @@ sum_of limit [] = 0
 sum_of limit (None ∷ lengths) = limit + 1 + sum_of limit lengths
 sum_of limit (Some m ∷ lengths) = m + sum_of limit lengths
 
+-- n items, none of which is a length
+pub record AreNone (n : ℕ) (lengths : List (Option ℕ)) : Type 0 where
+  pub count : length lengths ≡ n
+  pub none : (i m : ℕ) → slice_get lengths i ≡ Some (Some m) → ⊥
+
 -- only number n + n has a length, 0
 pub record AreFirst (n : ℕ) (lengths : List (Option ℕ)) : Type 0 where
   pub count : length lengths ≡ n + n + 1

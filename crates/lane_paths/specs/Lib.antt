@@ -2,6 +2,7 @@
 pub mod Clearances
 pub mod GapBounds
 pub mod Walks
+pub mod Closed
 pub mod Edges
 pub mod Waypoints
 pub mod Relaxations

@@ -3,6 +3,7 @@
 ghost use Rattle.std.specs.Prelude.{◌≡◌, ℕ, List, Option, IfOk};
 ghost use Rattle.lane_paths.specs.Labels.{AreLabels, label_at};
 
+use crate::closed::Closed;
 use crate::links::{relax_all, relax_start};
 use crate::shortest_lengths::ShortestLengths;
 use lanelets::Network;
@@ -38,8 +39,9 @@ pub fn labels(alloc: Global, net: &Network, start: Pt, limit: u64) -> Result<Lab
 {
     let starts = net.cells_at(alloc, start)?;
     let mut search = ShortestLengths::new(alloc, net.len(), limit)?;
-    relax_start(&mut search, net, start, starts.list())?;
-    relax_all(&mut search, net)?;
+    let mut closed = Closed::new(alloc);
+    relax_start(&mut search, &mut closed, net, start, starts.list())?;
+    relax_all(&mut search, &mut closed, net)?;
     Ok(LabelTable {
         labels: search.into_labels(),
     })

@@ -199,6 +199,58 @@ fn uneven_neighbours(rt: HostRuntime) -> Result<(), Fail> {
     Ok(())
 }
 
+/// The same with so many cells that their block is closed, once all have a length.
+#[test]
+fn closed_block(rt: HostRuntime) -> Result<(), Fail> {
+    let first = [
+        [0, 400, 0, 0],
+        [1400, 600, 1500, 200],
+        [2000, 1400, 2400, 1300],
+    ];
+    let second = [[0, 800, 0, 400], [2000, 1900, 2000, 1400]];
+    let found = labels_of_two(
+        rt.alloc(),
+        &first,
+        &[],
+        &[2],
+        &second,
+        (100, 200),
+        30_000_000,
+    )?;
+    let expected = [
+        Some(0),
+        Some(819_912),
+        Some(2_582_098),
+        Some(4_347_793),
+        Some(6_115_287),
+        Some(7_883_053),
+        Some(9_650_668),
+        Some(11_416_766),
+        Some(13_179_765),
+        Some(14_106_528),
+        Some(15_072_104),
+        Some(15_861_169),
+        Some(16_611_169),
+        Some(17_361_169),
+        Some(18_111_169),
+        Some(18_861_169),
+        Some(1_378_928),
+        Some(1_409_167),
+        Some(2_944_502),
+        Some(4_611_169),
+        Some(6_277_835),
+        Some(7_944_502),
+        Some(9_611_169),
+        Some(11_277_835),
+        Some(12_944_502),
+        Some(14_611_169),
+        Some(16_277_835),
+        Some(17_944_502),
+    ];
+    assert_eq!(rt; found.as_slice(), expected.as_slice());
+    Ok(())
+}
+
 /// A lanelet that is ahead and beside at once. The last cell is beyond the limit.
 #[test]
 fn successor_and_neighbour(rt: HostRuntime) -> Result<(), Fail> {

@@ -2,6 +2,7 @@
 #![tactic(auto)]
 
 mod clearances;
+mod closed;
 mod frontier;
 mod gaps;
 mod label_table;

@@ -5,30 +5,42 @@ ghost use Rattle.std.specs.Prelude.{◌≡◌, ◌<◌, ◌∷◌, ℕ, [], List
 ghost use Rattle.std.specs.List.{AllByRecursion};
 ghost use Rattle.spot_terms.specs.Cells.{cells};
 ghost use Rattle.spot_terms.specs.Hull.{IsHullOf};
+ghost use Rattle.spot_terms.specs.Lists.{Lists};
 ghost use Rattle.spot_terms.specs.Network.{IsAhead};
 ghost use Rattle.spot_terms.specs.Routes.{IsStartCell};
 ghost use Rattle.spot_terms.specs.declared.plain.Pt.{Pt as Point};
 ghost use Rattle.convex_poly.specs.Polygons.{IsPosition};
+ghost use Rattle.lanelets.specs.Beside.{IsBeside};
+ghost use Rattle.lane_paths.specs.Closed.{AreAllClosed, AreClosed, IsBlockOf};
 ghost use Rattle.lane_paths.specs.Relaxations.{AreSettled, HasPlaces, IsUnderWay, Relaxes, size_of};
-ghost use Rattle.lane_paths.specs.Waypoints.{IsWaypoint, LinksFrom, LinksFromStart, LinksBeside, LinksOf, LinksTo, LinksToEntries, entry_at};
+ghost use Rattle.lane_paths.specs.Waypoints.{IsWaypoint, LinksFrom, LinksFromStart, LinksBeside, LinksInCells, LinksOf, LinksTo, LinksToEntries, entry_at};
 
+use crate::closed::{
+    Closed, GreatestLengths, block_at, first_of, greatest_among, greatest_of_blocks,
+};
 use crate::shortest_lengths::{ShortestLengths, Waypoint};
 use convex_poly::{Poly, hull, segment};
 use lanelets::{Cell, Network};
 use spot_terms::Pt;
 use std::alloc::AllocError;
 
+/// A block of so few cells isn't closed, as to look for its greatest length would take as long as that saves.
+const FEW: usize = 16;
+
 /// Goes on from the start, which each of `starts` holds.
 pub(crate) fn relax_start(
     search: &mut ShortestLengths,
+    closed: &mut Closed,
     net: &Network,
     start: Pt,
     starts: &[u32],
 ) -> Result<(), AllocError>
     requires places { HasPlaces net.now search.old }
+    requires closed { AreAllClosed net.now search.old.lengths.items closed.old }
     requires starts { AllByRecursion (IsStartCell net.now start) starts.now }
     requires near { (c : ℕ) → IsStartCell net.now start c → IsPosition start }
     ensures places { OnOk result (HasPlaces net.now search.new) }
+    ensures closed { OnOk result (AreAllClosed net.now search.new.lengths.items closed.new) }
     ensures relaxes { OnOk result (Relaxes (LinksFromStart net.now start starts.now) 0 search.old search.new) }
 {
     for s in starts {
@@ -37,25 +49,36 @@ pub(crate) fn relax_start(
             length: 0,
             shape: polygon_at(start),
         };
-        relax_waypoint(search, net, &from)?;
+        relax_waypoint(search, closed, net, &from)?;
     }
     Ok(())
 }
 
 /// Goes on from entries until no length becomes less.
-pub(crate) fn relax_all(search: &mut ShortestLengths, net: &Network) -> Result<(), AllocError>
-    requires { HasPlaces net.now search.old }
+pub(crate) fn relax_all(
+    search: &mut ShortestLengths,
+    closed: &mut Closed,
+    net: &Network,
+) -> Result<(), AllocError>
+    requires places { HasPlaces net.now search.old }
+    requires closed { AreAllClosed net.now search.old.lengths.items closed.old }
     ensures places { OnOk result (HasPlaces net.now search.new) }
     ensures settled { OnOk result ((p : Point) (first : List (Option ℕ)) → IsUnderWay net.now p first search.old → AreSettled net.now p search.old.limit first search.new.lengths.items) }
 {
-    while relax_next(search, net)? {}
+    while relax_next(search, closed, net)? {}
     Ok(())
 }
 
 /// Goes on from one of the frontier entries, unless its length became less since. Whether there was one.
-fn relax_next(search: &mut ShortestLengths, net: &Network) -> Result<bool, AllocError>
-    requires { HasPlaces net.now search.old }
+fn relax_next(
+    search: &mut ShortestLengths,
+    closed: &mut Closed,
+    net: &Network,
+) -> Result<bool, AllocError>
+    requires places { HasPlaces net.now search.old }
+    requires closed { AreAllClosed net.now search.old.lengths.items closed.old }
     ensures places { OnOk result (HasPlaces net.now search.new) }
+    ensures closed { OnOk result (AreAllClosed net.now search.new.lengths.items closed.new) }
     ensures limit { OnOk result (search.new.limit ≡ search.old.limit) }
     ensures less { IfOk result (λ more. more ≡ true → size_of search.new < size_of search.old) }
     ensures none { IfOk result (λ more. more ≡ false → search.new.frontier ≡ []) }
@@ -67,20 +90,23 @@ fn relax_next(search: &mut ShortestLengths, net: &Network) -> Result<bool, Alloc
     if !search.is_current(so_far, d) {
         return Ok(true);
     }
-    relax_entry(search, net, so_far, d)?;
+    relax_entry(search, closed, net, so_far, d)?;
     Ok(true)
 }
 
 /// Goes on from the entry of a cell, to which the way is so long.
 fn relax_entry(
     search: &mut ShortestLengths,
+    closed: &mut Closed,
     net: &Network,
     so_far: u64,
     d: u32,
 ) -> Result<(), AllocError>
     requires places { HasPlaces net.now search.old }
+    requires closed { AreAllClosed net.now search.old.lengths.items closed.old }
     requires within { d < length (cells net.now) }
     ensures places { OnOk result (HasPlaces net.now search.new) }
+    ensures closed { OnOk result (AreAllClosed net.now search.new.lengths.items closed.new) }
     ensures relaxes { OnOk result ((p : Point) → Relaxes (LinksOf net.now p (entry_at net.now p d)) so_far search.old search.new) }
 {
     let from = Waypoint {
@@ -88,21 +114,105 @@ fn relax_entry(
         length: so_far,
         shape: entry_of(net.cell(d)),
     };
-    relax_waypoint(search, net, &from)
+    relax_waypoint(search, closed, net, &from)
 }
 
-/// Goes on from a waypoint in all cells to which side moves lead from its cell.
+/// Goes on from a waypoint in all cells to which side moves lead from its cell, unless their class is closed to it.
 fn relax_waypoint(
     search: &mut ShortestLengths,
+    closed: &mut Closed,
     net: &Network,
     from: &Waypoint,
 ) -> Result<(), AllocError>
     requires places { HasPlaces net.now search.old }
+    requires closed { AreAllClosed net.now search.old.lengths.items closed.old }
+    requires waypoint { (p : Point) × (i : ℕ) × IsWaypoint net.now p i from.now.cell from.now }
     requires within { from.now.cell < length (cells net.now) }
     ensures places { OnOk result (HasPlaces net.now search.new) }
+    ensures closed { OnOk result (AreAllClosed net.now search.new.lengths.items closed.new) }
     ensures relaxes { OnOk result ((p : Point) (i : ℕ) → IsWaypoint net.now p i from.now.cell from.now → Relaxes (LinksBeside net.now p i from.now.cell) from.now.length search.old search.new) }
 {
-    for c in net.beside(from.cell) {
+    let class = net.beside(from.cell);
+    let first = first_of(class);
+    if closed.classes.is_closed(first, from.length) {
+        return Ok(());
+    }
+    relax_blocks(search, &mut closed.blocks, net, from, class)?;
+    if let Some(most) = greatest_of_blocks(&closed.blocks, class) {
+        closed.classes.close(first, most)?;
+    }
+    Ok(())
+}
+
+/// Goes on from a waypoint in all cells of its class, block by block.
+fn relax_blocks(
+    search: &mut ShortestLengths,
+    closed: &mut GreatestLengths,
+    net: &Network,
+    from: &Waypoint,
+    class: &[u32],
+) -> Result<(), AllocError>
+    requires places { HasPlaces net.now search.old }
+    requires closed { AreClosed net.now search.old.lengths.items closed.old.greatest.items }
+    requires waypoint { (p : Point) × (i : ℕ) × IsWaypoint net.now p i from.now.cell from.now }
+    requires within { from.now.cell < length (cells net.now) }
+    requires class { Lists (λ c. IsBeside net.now (cells net.now) c from.now.cell) class.now }
+    ensures places { OnOk result (HasPlaces net.now search.new) }
+    ensures closed { OnOk result (AreClosed net.now search.new.lengths.items closed.new.greatest.items) }
+    ensures relaxes { OnOk result ((p : Point) (i : ℕ) → IsWaypoint net.now p i from.now.cell from.now → Relaxes (LinksBeside net.now p i from.now.cell) from.now.length search.old search.new) }
+{
+    let mut first = 0;
+    while first < class.len() {
+        let block = block_at(class, first);
+        relax_block(search, closed, net, from, block)?;
+        first += block.len();
+    }
+    Ok(())
+}
+
+/// Goes on from a waypoint in a block of cells to which side moves lead from its cell, unless the block is closed to it.
+fn relax_block(
+    search: &mut ShortestLengths,
+    closed: &mut GreatestLengths,
+    net: &Network,
+    from: &Waypoint,
+    block: &[u32],
+) -> Result<(), AllocError>
+    requires places { HasPlaces net.now search.old }
+    requires closed { AreClosed net.now search.old.lengths.items closed.old.greatest.items }
+    requires waypoint { (p : Point) × (i : ℕ) × IsWaypoint net.now p i from.now.cell from.now }
+    requires within { from.now.cell < length (cells net.now) }
+    requires block { IsBlockOf net.now from.now.cell block.now }
+    ensures places { OnOk result (HasPlaces net.now search.new) }
+    ensures closed { OnOk result (AreClosed net.now search.new.lengths.items closed.new.greatest.items) }
+    ensures relaxes { OnOk result ((p : Point) (i : ℕ) → IsWaypoint net.now p i from.now.cell from.now → Relaxes (LinksInCells net.now p i block.now) from.now.length search.old search.new) }
+{
+    if closed.is_closed(block[0], from.length) {
+        return Ok(());
+    }
+    relax_cells(search, net, from, block)?;
+    if block.len() > FEW {
+        if let Some(most) = greatest_among(search, net, block) {
+            closed.close(block[0], most)?;
+        }
+    }
+    Ok(())
+}
+
+/// Goes on from a waypoint in some cells.
+fn relax_cells(
+    search: &mut ShortestLengths,
+    net: &Network,
+    from: &Waypoint,
+    some: &[u32],
+) -> Result<(), AllocError>
+    requires places { HasPlaces net.now search.old }
+    requires within { from.now.cell < length (cells net.now) }
+    requires beside { AllByRecursion (λ c. IsBeside net.now (cells net.now) c from.now.cell) some.now }
+    ensures places { OnOk result (HasPlaces net.now search.new) }
+    ensures relaxes { OnOk result ((p : Point) (i : ℕ) → IsWaypoint net.now p i from.now.cell from.now → Relaxes (LinksInCells net.now p i some.now) from.now.length search.old search.new) }
+{
+    for c in some {
         relax_in_cell(search, net, from, *c)?;
     }
     Ok(())

@@ -46,6 +46,14 @@ impl ShortestLengths {
         })
     }
 
+    /// The length of the waypoint with this number, where it has one.
+    pub(crate) fn length_at(&self, number: usize) -> Option<u64>
+        requires { number < length self.now.lengths.items }
+        ensures { slice_get self.now.lengths.items number ≡ Some result }
+    {
+        self.lengths[number]
+    }
+
     // Whether the waypoint with this number has a length that is at most `n`.
     fn has_at_most(&self, number: usize, n: u64) -> bool
         requires { number < length self.now.lengths.items }

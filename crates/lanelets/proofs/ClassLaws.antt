@@ -7,16 +7,19 @@ use Rattle.spot_terms.specs.Cells.{Lane, NetCell}
 use Rattle.spot_terms.specs.Lists.{Includes}
 use Rattle.spot_terms.specs.Network.{IsSide}
 use Rattle.spot_terms.proofs.ListLemmas.{all_included, all_of}
-use Rattle.lanelets.specs.declared.levels.Pair.{Pair}
+use Rattle.lanelets.specs.declared.kept.KeptLane.{KeptLane}
+use Rattle.lanelets.specs.declared.nearby.Nearby.{Nearby}
 use Rattle.lanelets.specs.declared.classes.Classes.{Classes}
-use Rattle.lanelets.specs.Beside.{IsBeside, here, next, AreSidePairs, AreClassNumbers, AreClasses}
-use Rattle.lanelets.specs.Levels.{IsPairWithin, IsReached, at_first, along, IsLevel, IsMadeOf, AreOwn}
+use Rattle.lanelets.specs.Beside.{IsBeside, here, next, ArePairs, IsPair, AreClassNumbers, AreClasses}
+use Rattle.lanelets.specs.Levels.{IsReached, at_first, along, AreLevel, IsMadeOf, AreOwn}
 use Rattle.lanelets.specs.Listing.{AreBelow, AreColumns, AreLists, AreRows}
 use Rattle.lanelets.proofs.BesideLaws.{beside_join, beside_on, beside_back, beside_within}
 use Rattle.lanelets.proofs.NumberLists.{lists_as}
 use Rattle.lanelets.proofs.Places.{place_of_item, get_pushed}
 use Rattle.lanelets.proofs.RowLists.{lists_of, rows_within}
 use Rattle.lanelets.proofs.SideLaws.{side_back}
+use Rattle.lanelets.proofs.StarLaws.{IsChain, side_chain}
+use Rattle.lanelets.specs.Nearby.{AreKept}
 use Rattle.std.proofs.lemmas.List.{length_push}
 use Rattle.std.proofs.Common.{inl, inr}
 use Rattle.spot_terms.proofs.ItemPlaces.{got_below, item_at, written}
@@ -36,23 +39,43 @@ own_more n numbers after k e = subst (AreOwn (n + 1)) (sym e) (record {
 
 -- ---- numbers of classes
 
--- both of a pair are cells
-pub sides_within : (lanes : List Lane) (net : List NetCell) (pairs : List Pair) (n : ℕ) → n ≡ length net → AreSidePairs lanes net pairs → AllByRecursion (IsPairWithin n) pairs
-sides_within lanes net pairs n same k = subst (λ (z : ℕ). AllByRecursion (IsPairWithin z) pairs) (sym same) (all_of (IsPairWithin (length net)) pairs (λ p i.
-    let s = (k p).0 i in record { from = slice_get_within net p.from s.a s.c_is; to = slice_get_within net p.to s.b s.d_is }))
+-- the cells with which one is paired are cells
+pub pairs_within : (lanes : List Lane) (net : List NetCell) (n m : ℕ) (pairs : List (List ℕ)) → m ≡ length net → ArePairs lanes net n pairs → AllByRecursion (AreBelow m) pairs
+pairs_within lanes net n m pairs same k = all_of (AreBelow m) pairs (λ row i.
+    let (c, at) = place_of_item pairs row i in
+    all_of (λ x. x < m) row (λ d j. let s = (k.each c row at).only d j in let low = slice_get_within net d s.b s.d_is in omega (arith, low, same)))
 
-module _ (lanes : List Lane) (net : List NetCell) (pairs : List Pair) (first now : List ℕ) (k : AreSidePairs lanes net pairs) (own : AreOwn (length net) first) where
+module _ (lanes : List Lane) (net : List NetCell) (pairs : List (List ℕ)) (first now : List ℕ) (k : ArePairs lanes net (length net) pairs) (chain : (c d : ℕ) → IsSide lanes net c d → IsChain lanes net c d) (own : AreOwn (length net) first) where
   -- the number that a cell has is that of a cell beside which it lies
   reached_beside : (i m : ℕ) → IsReached pairs first i m → IsBeside lanes net i m × (m < length net)
   reached_beside i m (at_first _ _ g) =
       let e : m ≡ i = own.own i m g in
       (subst (λ (z : ℕ). IsBeside lanes net i z) (sym e) here, let l = slice_get_within first i m g in let count = own.count in omega (arith, e, l, count))
-  reached_beside _ _ (along p m j r) = let (b, l) = reached_beside p.from m r in (beside_on lanes net p.from p.to m b ((k p).0 j), l)
+  reached_beside _ _ (along c d m j r) = let (b, l) = reached_beside c m r in (beside_on lanes net c d m b ((k.each c j.0 j.1).only d j.2), l)
 
-  module _ (made : IsMadeOf pairs first now) (level : AllByRecursion (IsLevel now) pairs) (many : length now ≡ length net) where
-    -- no cell has a number above that of a cell beside it
+  module _ (made : IsMadeOf pairs first now) (level : AreLevel pairs now) (many : length now ≡ length net) where
+    -- no cell has a number above that of a cell with which it is paired
+    at_most_pair : (c d m q : ℕ) → IsPair lanes net c d → slice_get now c ≡ Some m → slice_get now d ≡ Some q → q ≤ m
+    at_most_pair c d m q p h g =
+        let s = p.side in
+        let (row, at) = item_at pairs c (let l = slice_get_within net c s.a s.c_is in let rows = k.many in omega (arith, l, rows)) in
+        level c d (row, at, (k.each c row at).all d p) m q h g
+
+    number_of : (c d : ℕ) → IsSide lanes net c d → (m : ℕ) × (slice_get now d ≡ Some m)
+    number_of c d s = item_at now d (let l = slice_get_within net d s.b s.d_is in omega (arith, l, many))
+
+    -- nor above that of a cell beside it
     at_most : (c d m q : ℕ) → IsSide lanes net c d → slice_get now c ≡ Some m → slice_get now d ≡ Some q → q ≤ m
-    at_most c d m q s h g = let p : Pair = record { from = c; to = d } in all_included (IsLevel now) pairs p level ((k p).1 s) m q h g
+    at_most c d m q s h g = elim (chain c d s) [
+      | inl p ↦ at_most_pair c d m q p h g
+      | inr (y, x, p, r, t) ↦
+          (let (j, j_is) = number_of c y p.side in
+          let (i, i_is) = number_of y x r.side in
+          let a = at_most_pair c y m j p h j_is in
+          let b = at_most_pair y x j i r j_is i_is in
+          let e = at_most_pair x d i q t i_is g in
+          omega (arith, a, b, e))
+    ]
 
     level_side : (c d m : ℕ) → IsSide lanes net c d → slice_get now c ≡ Some m → slice_get now d ≡ Some m
     level_side c d m s h =
@@ -115,14 +138,15 @@ pub one_row : (numbers list : List ℕ) (i d : ℕ) → i < length numbers → (
 one_row numbers list i d h k x = let at = slice_get-get_or numbers i d h in ((λ j. at ∙ (k x).0 j), (λ e. (k x).1 (sym at ∙ e)))
 
 -- the numbers as they are written back
-pub classes_written : (lanes : List Lane) (net : List NetCell) (count many : ℕ) (pairs looked : List Pair) (first given now : List ℕ) → looked ≡ pairs → given ≡ first → count ≡ length net → many ≡ length first
-    → AreSidePairs lanes net pairs → AreOwn count first → IsMadeOf looked given now → AllByRecursion (IsLevel now) looked → length now ≡ length given → AreClassNumbers lanes net (take many (now ++ drop (length now) first))
-classes_written lanes net count many pairs looked first given now same_pairs same_first count_is many_is k own made level long =
-    let made_first : IsMadeOf pairs first now = subst (λ (z : List ℕ). IsMadeOf pairs z now) same_first (subst (λ (z : List Pair). IsMadeOf z given now) same_pairs made) in
+pub classes_written : (lanes : List Lane) (net : List NetCell) (kept : List KeptLane) (nearby : Nearby) (count cells many : ℕ) (pairs looked : List (List ℕ)) (first given now : List ℕ) → AreKept lanes net kept nearby → looked ≡ pairs → given ≡ first → count ≡ length net → cells ≡ length net → many ≡ length first
+    → ArePairs lanes net cells pairs → AreOwn count first → IsMadeOf looked given now → AreLevel looked now → length now ≡ length given → AreClassNumbers lanes net (take many (now ++ drop (length now) first))
+classes_written lanes net kept nearby count cells many pairs looked first given now near same_pairs same_first count_is cells_is many_is k own made level long =
+    let made_first : IsMadeOf pairs first now = subst (λ (z : List ℕ). IsMadeOf pairs z now) same_first (subst (λ (z : List (List ℕ)). IsMadeOf z given now) same_pairs made) in
     let as_long : length now ≡ length first = long ∙ ap length same_first in
     let own_cells : AreOwn (length net) first = subst (λ (z : ℕ). AreOwn z first) count_is own in
+    let pairs_are : ArePairs lanes net (length net) pairs = subst (λ (z : ℕ). ArePairs lanes net z pairs) cells_is k in
     subst (AreClassNumbers lanes net) (sym (written many now first many_is as_long))
-    (level_classes lanes net pairs first now k own_cells made_first (subst (λ (z : List Pair). AllByRecursion (IsLevel now) z) same_pairs level) (as_long ∙ own_cells.count))
+    (level_classes lanes net pairs first now pairs_are (side_chain lanes net kept nearby near) own_cells made_first (subst (λ (z : List (List ℕ)). AreLevel z now) same_pairs level) (as_long ∙ own_cells.count))
 
 -- the rows of the numbers, as they are looked at
 pub number_rows : (looked numbers : List ℕ) (rows : List (List ℕ)) → looked ≡ numbers → AreRows (λ c x. slice_get looked c ≡ Some x) (length looked) rows → AreRows (λ c x. slice_get numbers c ≡ Some x) (length numbers) rows

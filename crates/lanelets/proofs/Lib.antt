@@ -18,6 +18,7 @@ pub mod PairLists
 pub mod Places
 pub mod RowLists
 pub mod SideLaws
+pub mod StarLaws
 pub mod Sides
 pub mod BoxLists
 pub mod StepLists

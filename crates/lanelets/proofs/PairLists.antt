@@ -1,67 +1,28 @@
--- Lists of pairs that grow.
-use Rattle.std.proofs.Common.{◌≡◌, ◌∙◌, ◌⊎◌, inl, inr, ℕ, ◌+◌, ◌≤◌, Bool, true, false, ◌&&◌, ◌||◌, ◌==◌, not, arith, refl, sym, ap, subst, List, [], ◌∷◌, ◌++◌, length}
-use Rattle.std.proofs.lemmas.List.{length-map}
-use Rattle.std.proofs.lemmas.Option.{slice_get_within}
+-- Lists of the cells that are paired with a cell.
+use Rattle.std.proofs.Common.{◌≡◌, ◌∙◌, ◌⊎◌, inl, inr, ℕ, ◌+◌, ◌≤◌, ◌<◌, Bool, true, false, ◌&&◌, ◌||◌, ◌==◌, not, arith, refl, sym, ap, subst, List, [], ◌∷◌, ◌++◌, length, take}
+use Rattle.std.proofs.lemmas.List.{length-map, length_push}
+use Rattle.std.proofs.lemmas.Option.{same_Some}
 use Rattle.std.specs.List.{list_any}
 use Rattle.std.specs.Prelude.{Some, slice_get}
 use Rattle.spot_terms.specs.Cells.{Lane, NetCell}
-use Rattle.spot_terms.specs.Lists.{Includes}
+use Rattle.spot_terms.specs.Lists.{Includes, Lists, Rises}
 use Rattle.spot_terms.specs.Network.{IsSide, Overlaps, lane_of}
 use Rattle.spot_terms.specs.declared.network.Origin.{Origin}
 use Rattle.spot_terms.specs.declared.network.Origin.TheVariants.{Part, Bridge}
-use Rattle.spot_terms.proofs.ListLemmas.{includes_front, includes_back, includes_either}
-use Rattle.spot_terms.proofs.Orders.{below_one_more, below_or_here}
+use Rattle.spot_terms.proofs.ListLemmas.{all_included, includes_front, includes_back, includes_either}
+use Rattle.spot_terms.proofs.Unique.{some_injective}
 use Rattle.lanelets.specs.declared.cell.Placed.{Placed}
-use Rattle.lanelets.specs.declared.levels.Pair.{Pair}
-use Rattle.lanelets.specs.Beside.{AreSidePairs, HasSidesIn, SidesAmong, SidesOf, SidesFrom}
-use Rattle.lanelets.specs.Levels.{Gains, GainsBetween}
+use Rattle.lanelets.specs.Beside.{ArePairs, ArePairsOf, HasPairsIn, IsFirst, IsPair}
+use Rattle.lanelets.specs.Listing.{AreBelow, Gathers, GathersBetween}
 use Rattle.lanelets.specs.Nearby.{AreListed, HasPieceNumber, IsPieceNumber}
 use Rattle.lanelets.specs.Steps.{net_of, HasOrigin, IsOfLane}
-use Rattle.lanelets.proofs.Places.{same_at}
+use Rattle.lanelets.proofs.Places.{get_pushed, same_at}
+use Rattle.lanelets.proofs.RowLists.{gathers_as, gathers_list, gathers_more}
 use Rattle.lanelets.proofs.StepLists.{origin_is}
-use Rattle.spot_terms.proofs.Unique.{some_injective}
 
 -- each cell is one of the network
 pub net_many : (cells : List Placed) → length (net_of cells) ≡ length cells
 net_many cells = length-map cells (λ p. record { origin = p.origin; entry = p.cell.entry; exit = p.cell.exit })
-
--- pairs of the same cells are equal
-pair_is : (p : Pair) (i j : ℕ) → p.from ≡ i → p.to ≡ j → p ≡ record { from = i; to = j }
-pair_is p i j from to = subst (λ (k : ℕ). p ≡ record { from = k; to = j }) from (subst (λ (k : ℕ). p ≡ record { from = p.from; to = k }) to refl)
-
--- nothing was added, where P holds of nothing
-pub gains_none : (P : Pair → Type 0) (pairs : List Pair) → ((p : Pair) → P p → ⊥) → Gains P pairs pairs
-gains_none P pairs none = record { has = λ p i. elim i [ inl j ↦ j | inr h ↦ absurd (none p h) ]; only = λ p i. inl i }
-
--- one pair was added
-gains_push : (P : Pair → Type 0) (pairs : List Pair) (x : Pair) → P x → ((p : Pair) → P p → p ≡ x) → Gains P pairs (pairs ++ x ∷ [])
-gains_push P pairs x h one = record {
-  has = λ p i. elim i [ inl j ↦ includes_front pairs (x ∷ []) p j | inr k ↦ includes_back pairs (x ∷ []) p (inl (one p k)) ];
-  only = λ p i. elim (includes_either pairs (x ∷ []) p i) [
-    | inl j ↦ inl j
-    | inr j ↦ elim j [ inl same ↦ inr (subst P (sym same) h) | inr none ↦ absurd none ]
-  ];
-}
-
--- one after the other
-gains_then : (P Q R : Pair → Type 0) (a b c : List Pair) → Gains P a b → Gains Q b c → ((p : Pair) → P p → R p) → ((p : Pair) → Q p → R p) → ((p : Pair) → R p → P p ⊎ Q p) → Gains R a c
-gains_then P Q R a b c g h first then back = record {
-  has = λ p i. elim i [
-    | inl j ↦ h.has p (inl (g.has p (inl j)))
-    | inr k ↦ elim (back p k) [ inl l ↦ h.has p (inl (g.has p (inr l))) | inr q ↦ h.has p (inr q) ]
-  ];
-  only = λ p i. elim (h.only p i) [
-    | inl j ↦ elim (g.only p j) [ inl k ↦ inl k | inr l ↦ inr (first p l) ]
-    | inr q ↦ inr (then p q)
-  ];
-}
-
--- the same in other words
-gains_as : (P Q : Pair → Type 0) (before after : List Pair) → Gains P before after → ((p : Pair) → P p → Q p) → ((p : Pair) → Q p → P p) → Gains Q before after
-gains_as P Q before after g to back = record {
-  has = λ p i. elim i [ inl j ↦ g.has p (inl j) | inr k ↦ g.has p (inr (back p k)) ];
-  only = λ p i. elim (g.only p i) [ inl j ↦ inl j | inr k ↦ inr (to p k) ];
-}
 
 -- ---- where side cells are
 
@@ -97,90 +58,133 @@ side_piece lanes net lists c d e f piece part parts k o number of equal s =
     let same : to.0 ≡ f = some_injective to.0 f (ap lane_of (sym to.3) ∙ s.f_is.0 ∙ ap (λ (z : ℕ). Some z) same_f) in
     (f, piece, to.1, to.2, s.b, s.d_is, subst (λ (z : ℕ). s.b.origin ≡ Part z piece to.1 to.2) same to.3, number)
 
+-- ---- the first cell of a lanelet
+
+-- a cell is of one lanelet
+lane_one : (net : List NetCell) (c e f : ℕ) → IsOfLane net c e → IsOfLane net c f → e ≡ f
+lane_one net c e f h g = some_injective e f (sym h.2 ∙ ap (λ (n : NetCell). lane_of n.origin) (same_at net c h.0 g.0 h.1 g.1) ∙ g.2)
+
+-- the least item of a list that rises is its first
+first_at : (xs : List ℕ) (c : ℕ) → Rises xs → Includes xs c → ((d : ℕ) → Includes xs d → c ≤ d) → slice_get xs 0 ≡ Some c
+first_at [] c r i low = absurd i
+first_at (x ∷ xs) c r i low = ap (λ (z : ℕ). Some z) (same i)
+  where
+    same : (c ≡ x) ⊎ Includes xs c → x ≡ c
+    same (inl e) = sym e
+    same (inr j) = let up : x < c = all_included (λ y. x < y) xs c r.0 j in let down : c ≤ x = low x (inl refl) in absurd (omega (arith, up, down))
+
+-- of the cells of a lanelet it is the first in their list
+first_listed : (net : List NetCell) (c e : ℕ) (list : List ℕ) → Lists (λ d. IsOfLane net d e) list → IsOfLane net c e → IsFirst net c → slice_get list 0 ≡ Some c
+first_listed net c e list lists of first =
+    let same : first.0 ≡ e = lane_one net c first.0 e first.1 of in
+    first_at list c lists.rises (lists.all c of) (λ d i. first.2 d (subst (λ (z : ℕ). IsOfLane net d z) (sym same) (lists.each d i)))
+
+-- a list cut behind its first item has that
+front_has : (xs : List ℕ) (d : ℕ) → slice_get xs 0 ≡ Some d → Includes (take 1 xs) d
+front_has [] d h = cc
+front_has (x ∷ xs) d h = inl (sym (same_Some x d h))
+
+-- and what is below n in all is below n there
+pub star_below : (n : ℕ) (other result : List ℕ) → (result ≡ other) ⊎ (result ≡ take 1 other) → AreBelow n other → AreBelow n result
+star_below n other result (inl same) low = subst (AreBelow n) (sym same) low
+star_below n [] result (inr cut) low = subst (AreBelow n) (sym cut) tt
+star_below n (x ∷ xs) result (inr cut) low = subst (AreBelow n) (sym cut) (low.0, tt)
+
+-- of lanelets with unlike numbers of points the pairs of a cell are among all cells of the other, or its first alone
+pub star_has : (lanes : List Lane) (net : List NetCell) (c d e f : ℕ) (own other result : List ℕ) → Lists (λ x. IsOfLane net x e) own → Lists (λ x. IsOfLane net x f) other → (slice_get own 0 ≡ Some c → result ≡ other) → (result ≡ other) ⊎ (result ≡ take 1 other)
+    → IsOfLane net c e → IsOfLane net d f → ((l m : Lane) → slice_get lanes e ≡ Some l → slice_get lanes f ≡ Some m → length l.1.left ≡ length m.1.left → ⊥) → IsPair lanes net c d → Includes result d
+star_has lanes net c d e f own other result own_is other_is whole some here of unlike p =
+    let s = p.side in
+    let same_e : s.e ≡ e = lane_one net c s.e e (s.a, s.c_is, s.e_is.0) here in
+    let same_f : s.f ≡ f = lane_one net d s.f f (s.b, s.d_is, s.f_is.0) of in
+    elim (p.first (unlike s.l s.m (subst (λ z. slice_get lanes z ≡ Some s.l) same_e s.e_is.1) (subst (λ z. slice_get lanes z ≡ Some s.m) same_f s.f_is.1))) [
+      | inl first ↦ all (whole (first_listed net c e own own_is here first))
+      | inr first ↦ elim some [
+        | inl same ↦ all same
+        | inr cut ↦ subst (λ (xs : List ℕ). Includes xs d) (sym cut) (front_has other d (first_listed net d f other other_is of first))
+      ]
+    ]
+  where
+    all : result ≡ other → Includes result d
+    all same = subst (λ (xs : List ℕ). Includes xs d) (sym same) (other_is.all d of)
+
 -- ---- the pairs of one cell
 
+one_of : (list : List ℕ) (d x : ℕ) → Includes (list ++ d ∷ []) x → Includes list x ⊎ (x ≡ d)
+one_of list d x i = elim (includes_either list (d ∷ []) x i) [ inl j ↦ inl j | inr j ↦ elim j [ inl e ↦ inr e | inr none ↦ absurd none ] ]
+
 module _ (lanes : List Lane) (net : List NetCell) (c : ℕ) where
-  -- where none is among them there are none
-  pub among_none : (P : ℕ → Type 0) (pairs : List Pair) → ((d : ℕ) → P d → ⊥) → Gains (SidesAmong lanes net c P) pairs pairs
-  among_none P pairs none = gains_none (SidesAmong lanes net c P) pairs (λ p h. none p.to h.1)
-
-  -- those of P, and then those of Q
-  pub among_then : (P Q R : ℕ → Type 0) (first before after : List Pair) → ((d : ℕ) → P d → R d) → ((d : ℕ) → Q d → R d) → ((d : ℕ) → R d → P d ⊎ Q d) → Gains (SidesAmong lanes net c P) first before → Gains (SidesAmong lanes net c Q) before after → Gains (SidesAmong lanes net c R) first after
-  among_then P Q R first before after left right back g h =
-      gains_then (SidesAmong lanes net c P) (SidesAmong lanes net c Q) (SidesAmong lanes net c R) first before after g h
-      (λ p k. (k.0, left p.to k.1, k.2))
-      (λ p k. (k.0, right p.to k.1, k.2))
-      (λ p k. elim (back p.to k.1) [ inl l ↦ inl (k.0, l, k.2) | inr l ↦ inr (k.0, l, k.2) ])
-
-  one_of : (list : List ℕ) (d x : ℕ) → Includes (list ++ d ∷ []) x → Includes list x ⊎ (x ≡ d)
-  one_of list d x i = elim (includes_either list (d ∷ []) x i) [ inl j ↦ inl j | inr j ↦ elim j [ inl e ↦ inr e | inr none ↦ absurd none ] ]
+  -- none of an empty list
+  pub among_none : (pairs : List ℕ) → Gathers (λ d. Includes [] d × IsSide lanes net c d) pairs pairs
+  among_none pairs x = ((λ i. inl i), (λ s. elim s [ inl i ↦ i | inr h ↦ absurd h.0 ]))
 
   -- cell d lies beside cell c
-  pub side_more : (list : List ℕ) (d : ℕ) (first before after : List Pair) → IsSide lanes net c d → Gains (SidesAmong lanes net c (Includes list)) first before → after ≡ before ++ record { from = c; to = d } ∷ [] → Gains (SidesAmong lanes net c (Includes (list ++ d ∷ []))) first after
-  side_more list d first before after s g e =
-      among_then (Includes list) (λ x. x ≡ d) (Includes (list ++ d ∷ [])) first before after
-      (λ x i. includes_front list (d ∷ []) x i)
-      (λ x same. includes_back list (d ∷ []) x (inl same))
-      (λ x i. one_of list d x i)
+  pub among_more : (list : List ℕ) (d : ℕ) (first before after : List ℕ) → IsSide lanes net c d → after ≡ before ++ d ∷ [] → Gathers (λ x. Includes list x × IsSide lanes net c x) first before → Gathers (λ x. Includes (list ++ d ∷ []) x × IsSide lanes net c x) first after
+  among_more list d first before after s e g =
+      gathers_as (λ x. (Includes list x × IsSide lanes net c x) ⊎ Includes (d ∷ []) x) (λ x. Includes (list ++ d ∷ []) x × IsSide lanes net c x) first after
+      (λ x h. elim h [
+        | inl old ↦ (includes_front list (d ∷ []) x old.0, old.1)
+        | inr new ↦ (includes_back list (d ∷ []) x new, elim new [ inl same ↦ subst (λ (z : ℕ). IsSide lanes net c z) (sym same) s | inr none ↦ absurd none ])
+      ])
+      (λ x h. elim (includes_either list (d ∷ []) x h.0) [ inl old ↦ inl (old, h.1) | inr new ↦ inr new ])
+      (gathers_more (λ x. Includes list x × IsSide lanes net c x) (Includes (d ∷ [])) first before after g (gathers_list before after (d ∷ []) e))
+
+  -- cell d doesn't
+  pub among_less : (list : List ℕ) (d : ℕ) (first now : List ℕ) → (IsSide lanes net c d → ⊥) → Gathers (λ x. Includes list x × IsSide lanes net c x) first now → Gathers (λ x. Includes (list ++ d ∷ []) x × IsSide lanes net c x) first now
+  among_less list d first now none g =
+      gathers_as (λ x. Includes list x × IsSide lanes net c x) (λ x. Includes (list ++ d ∷ []) x × IsSide lanes net c x) first now
+      (λ x h. (includes_front list (d ∷ []) x h.0, h.1))
+      (λ x h. (elim (one_of list d x h.0) [ inl i ↦ i | inr e ↦ absurd (none (subst (λ (z : ℕ). IsSide lanes net c z) e h.1)) ], h.1))
       g
-      (subst (λ (z : List Pair). Gains (SidesAmong lanes net c (λ x. x ≡ d)) before z) (sym e) (gains_push (SidesAmong lanes net c (λ x. x ≡ d)) before (record { from = c; to = d }) (refl, refl, s) (λ x h. pair_is x c d h.0 h.1)))
 
-  -- cell d doesn't lie beside cell c
-  pub side_less : (list : List ℕ) (d : ℕ) (first now : List Pair) → (IsSide lanes net c d → ⊥) → Gains (SidesAmong lanes net c (Includes list)) first now → Gains (SidesAmong lanes net c (Includes (list ++ d ∷ []))) first now
-  side_less list d first now none g =
-      gains_as (SidesAmong lanes net c (Includes list)) (SidesAmong lanes net c (Includes (list ++ d ∷ []))) first now g
-      (λ x h. (h.0, includes_front list (d ∷ []) x.to h.1, h.2))
-      (λ x h. (h.0, elim (one_of list d x.to h.1) [ inl i ↦ i | inr e ↦ absurd (none (subst (λ (z : ℕ). IsSide lanes net c z) e (subst (λ (z : ℕ). IsSide lanes net z x.to) h.0 h.2))) ], h.2))
+  -- paired with cell c, and of one of these lanelets
+  abbrev pub PairsIn : List ℕ → ℕ → Type 0
+  PairsIn near d = IsPair lanes net c d × ((f : ℕ) × Includes near f × IsOfLane net d f)
 
-  -- the cells of no lanelets
-  pub near_none : (pairs : List Pair) → GainsBetween (SidesAmong lanes net c (λ d. (f : ℕ) × Includes [] f × IsOfLane net d f)) (SidesOf lanes net c) pairs pairs
-  near_none pairs = record { has = λ p i. elim i [ inl j ↦ j | inr h ↦ absurd h.1.1 ]; only = λ p i. inl i }
+  -- of no lanelets
+  pub near_none : (pairs : List ℕ) → GathersBetween (PairsIn []) (IsSide lanes net c) pairs pairs
+  near_none pairs = record { has = λ x i. elim i [ inl j ↦ j | inr h ↦ absurd h.1.1 ]; only = λ x i. inl i }
 
-  -- the cells of one lanelet more
-  pub near_more : (near : List ℕ) (f : ℕ) (list : List ℕ) (first before after : List Pair) → HasSidesIn lanes net c f list → GainsBetween (SidesAmong lanes net c (λ d. (k : ℕ) × Includes near k × IsOfLane net d k)) (SidesOf lanes net c) first before
-      → Gains (SidesAmong lanes net c (Includes list)) before after → GainsBetween (SidesAmong lanes net c (λ d. (k : ℕ) × Includes (near ++ f ∷ []) k × IsOfLane net d k)) (SidesOf lanes net c) first after
+  -- of one lanelet more
+  pub near_more : (near : List ℕ) (f : ℕ) (list : List ℕ) (first before after : List ℕ) → HasPairsIn lanes net c f list → GathersBetween (PairsIn near) (IsSide lanes net c) first before → Gathers (λ x. Includes list x × IsSide lanes net c x) before after
+      → GathersBetween (PairsIn (near ++ f ∷ [])) (IsSide lanes net c) first after
   near_more near f list first before after all g h = record {
-    has = λ p i. elim i [
-      | inl j ↦ h.has p (inl (g.has p (inl j)))
+    has = λ x i. elim i [
+      | inl j ↦ (h x).1 (inl (g.has x (inl j)))
       | inr k ↦ elim (one_of near f k.1.0 k.1.1) [
-        | inl old ↦ h.has p (inl (g.has p (inr (k.0, (k.1.0, old, k.1.2), k.2))))
-        | inr new ↦ h.has p (inr (k.0, all p.to (subst (λ (z : ℕ). IsOfLane net p.to z) new k.1.2) (subst (λ (z : ℕ). IsSide lanes net z p.to) k.0 k.2), k.2))
+        | inl old ↦ (h x).1 (inl (g.has x (inr (k.0, (k.1.0, old, k.1.2)))))
+        | inr new ↦ (h x).1 (inr (all x (subst (λ (z : ℕ). IsOfLane net x z) new k.1.2) k.0, k.0.side))
       ]
     ];
-    only = λ p i. elim (h.only p i) [ inl j ↦ g.only p j | inr k ↦ inr (k.0, k.2) ];
+    only = λ x i. elim ((h x).0 i) [ inl j ↦ g.only x j | inr k ↦ inr k.1 ];
   }
 
   -- those in the neighbours of its lanelet are all
-  pub sides_near : (e : ℕ) (near : List ℕ) (before after : List Pair) → IsOfLane net c e → ((f : ℕ) → AreListed lanes e f → Includes near f) → GainsBetween (SidesAmong lanes net c (λ d. (f : ℕ) × Includes near f × IsOfLane net d f)) (SidesOf lanes net c) before after → Gains (SidesOf lanes net c) before after
-  sides_near e near before after here all g = record {
-    has = λ p i. elim i [
-      | inl j ↦ g.has p (inl j)
-      | inr h ↦ (let s = h.1 in g.has p (inr (h.0, (s.f, all s.f (side_listed lanes net p.from p.to e s (subst (λ (z : ℕ). IsOfLane net z e) (sym h.0) here)), (s.b, s.d_is, s.f_is.0)), s)))
-    ];
-    only = g.only;
+  pub pairs_near : (e : ℕ) (near before after : List ℕ) → before ≡ [] → IsOfLane net c e → ((f : ℕ) → AreListed lanes e f → Includes near f) → GathersBetween (PairsIn near) (IsSide lanes net c) before after → ArePairsOf lanes net c after
+  pairs_near e near before after empty here all g = record {
+    only = λ d i. elim (g.only d i) [ inl old ↦ absurd (subst (λ (xs : List ℕ). Includes xs d) empty old) | inr s ↦ s ];
+    all = λ d p. let s = p.side in g.has d (inr (p, (s.f, all s.f (side_listed lanes net c d e s here), (s.b, s.d_is, s.f_is.0))));
   }
 
   -- a cell of no lanelet has none
-  pub no_lane : (pairs : List Pair) → ((e : ℕ) → IsOfLane net c e → ⊥) → Gains (SidesOf lanes net c) pairs pairs
-  no_lane pairs none = gains_none (SidesOf lanes net c) pairs (λ p h. none h.1.e (subst (λ (z : ℕ). IsOfLane net z h.1.e) h.0 (h.1.a, h.1.c_is, h.1.e_is.0)))
+  pub pairs_none : (pairs : List ℕ) → pairs ≡ [] → ((e : ℕ) → IsOfLane net c e → ⊥) → ArePairsOf lanes net c pairs
+  pairs_none pairs empty none = record {
+    only = λ d i. absurd (subst (λ (xs : List ℕ). Includes xs d) empty i);
+    all = λ d p. let s = p.side in absurd (none s.e (s.a, s.c_is, s.e_is.0));
+  }
 
 -- ---- the pairs of all cells
 
--- the pairs of one more cell
-pub sides_more : (lanes : List Lane) (net : List NetCell) (c : ℕ) (first before after : List Pair) → Gains (SidesFrom lanes net c) first before → Gains (SidesOf lanes net c) before after → Gains (SidesFrom lanes net (c + 1)) first after
-sides_more lanes net c first before after g h =
-    gains_then (SidesFrom lanes net c) (SidesOf lanes net c) (SidesFrom lanes net (c + 1)) first before after g h
-    (λ x k. (below_one_more x.from c k.0, k.1))
-    (λ x k. (let e = k.0 in omega (arith, e), k.1))
-    (λ x k. elim (below_or_here x.from c k.0) [ inl l ↦ inl (l, k.1) | inr e ↦ inr (e, k.1) ])
+-- of no cells
+pub rows_none : (lanes : List Lane) (net : List NetCell) (rows : List (List ℕ)) → rows ≡ [] → ArePairs lanes net 0 rows
+rows_none lanes net rows e = subst (ArePairs lanes net 0) (sym e) (record { many = refl; each = λ c row h. cc })
 
--- none has a cell below 0
-pub no_cells : (lanes : List Lane) (net : List NetCell) (p : Pair) → SidesFrom lanes net 0 p → ⊥
-no_cells lanes net p h = let l = h.0 in omega (arith, l)
-
--- the pairs of all cells
-pub sides_all : (lanes : List Lane) (net : List NetCell) (n : ℕ) (pairs : List Pair) → length net ≤ n → Gains (SidesFrom lanes net n) [] pairs → AreSidePairs lanes net pairs
-sides_all lanes net n pairs h g = λ p. (
-  λ i. elim (g.only p i) [ inl none ↦ absurd none | inr k ↦ k.1 ],
-  λ k. g.has p (inr (let w = slice_get_within net p.from k.a k.c_is in omega (arith, w, h), k)),
-)
+-- of one cell more
+pub rows_more : (lanes : List Lane) (net : List NetCell) (n : ℕ) (rows after : List (List ℕ)) (row : List ℕ) → ArePairs lanes net n rows → ArePairsOf lanes net n row → after ≡ rows ++ row ∷ [] → ArePairs lanes net (n + 1) after
+rows_more lanes net n rows after row k h e = subst (ArePairs lanes net (n + 1)) (sym e) (record {
+  many = length_push rows row ∙ ap (λ (z : ℕ). z + 1) k.many;
+  each = λ c one g. elim (get_pushed rows row one c g) [
+    | inl old ↦ k.each c one old
+    | inr new ↦ subst (λ (z : ℕ). ArePairsOf lanes net z one) (sym (new.0 ∙ k.many)) (subst (λ (xs : List ℕ). ArePairsOf lanes net n xs) (sym new.1) h)
+  ];
+})

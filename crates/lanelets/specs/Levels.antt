@@ -1,42 +1,43 @@
--- Numbers of cells that are lowered along pairs.
-use Rattle.std.specs.Prelude.{◌≡◌, ◌⊎◌, ℕ, ◌<◌, ◌≤◌, List, length, Some, slice_get, slice_set}
+-- Numbers of cells that are lowered along pairs. For each cell the cells with which it is paired are listed.
+use Rattle.std.specs.Prelude.{◌≡◌, ◌⊎◌, ℕ, ◌+◌, ◌<◌, ◌≤◌, List, length, sum, Some, slice_get}
 use Rattle.spot_terms.specs.Lists.{Includes}
-use Rattle.lanelets.specs.declared.levels.Pair.{Pair}
-
--- both cells are below n
-pub record IsPairWithin (n : ℕ) (p : Pair) : Type 0 where
-  pub from : p.from < n
-  pub to : p.to < n
+use Rattle.lanelets.specs.Listing.{IsRowWith}
 
 -- cell i has the number m, or it was lowered to m along some pairs
-pub data IsReached (pairs : List Pair) (first : List ℕ) : ℕ → ℕ → Type 0 where
+pub data IsReached (pairs : List (List ℕ)) (first : List ℕ) : ℕ → ℕ → Type 0 where
   at_first : (i m : ℕ) → slice_get first i ≡ Some m → IsReached pairs first i m
-  along : (p : Pair) (m : ℕ) → Includes pairs p → IsReached pairs first p.from m → IsReached pairs first p.to m
+  along : (c d m : ℕ) → IsRowWith pairs d c → IsReached pairs first c m → IsReached pairs first d m
 
--- the number of the second cell is at most that of the first
-abbrev pub IsLevel : List ℕ → Pair → Type 0
-IsLevel numbers p = (m k : ℕ) → slice_get numbers p.from ≡ Some m → slice_get numbers p.to ≡ Some k → k ≤ m
+-- the number of cell d is at most that of cell c
+abbrev pub IsLevel : List ℕ → ℕ → ℕ → Type 0
+IsLevel numbers c d = (m k : ℕ) → slice_get numbers c ≡ Some m → slice_get numbers d ≡ Some k → k ≤ m
+
+-- so it is for each pair
+abbrev pub AreLevel : List (List ℕ) → List ℕ → Type 0
+AreLevel pairs numbers = (c d : ℕ) → IsRowWith pairs d c → IsLevel numbers c d
 
 -- the numbers after are made of those before, along pairs
-abbrev pub IsMadeOf : List Pair → List ℕ → List ℕ → Type 0
+abbrev pub IsMadeOf : List (List ℕ) → List ℕ → List ℕ → Type 0
 IsMadeOf pairs before after = (i m : ℕ) → slice_get after i ≡ Some m → IsReached pairs before i m
 
--- the number of the second cell became less, and is that of the first
-pub record IsLowered (p : Pair) (before after : List ℕ) : Type 0 where
-  pub n : ℕ
-  pub from_is : slice_get before p.from ≡ Some n
-  pub above : (k : ℕ) → slice_get before p.to ≡ Some k → n < k
-  pub after_is : after ≡ slice_set before p.to n
+-- twice the sum of the numbers, and how many cells are noted
+abbrev pub size_of : List ℕ → List ℕ → ℕ
+size_of numbers noted = sum numbers + sum numbers + length noted
 
--- the pairs after are those before, and those of which P holds
-pub record Gains (P : Pair → Type 0) (before after : List Pair) : Type 0 where
-  pub has : (p : Pair) → Includes before p ⊎ P p → Includes after p
-  pub only : (p : Pair) → Includes after p → Includes before p ⊎ P p
+-- the numbers of the cells of a row were lowered to n, where that is less, and these cells noted
+pub record Lowers (row : List ℕ) (n : ℕ) (before noted_before after noted_after : List ℕ) : Type 0 where
+  pub many : length after ≡ length before
+  pub made : (i m : ℕ) → slice_get after i ≡ Some m → (slice_get before i ≡ Some m) ⊎ (Includes row i × (m ≡ n) × Includes noted_after i)
+  pub falls : (i k m : ℕ) → slice_get before i ≡ Some k → slice_get after i ≡ Some m → m ≤ k
+  pub low : (i m : ℕ) → Includes row i → slice_get after i ≡ Some m → m ≤ n
+  pub waits : (x : ℕ) → Includes noted_before x → Includes noted_after x
+  pub within : (x : ℕ) → Includes noted_after x → Includes noted_before x ⊎ Includes row x
+  pub smaller : size_of after noted_after ≤ size_of before noted_before
 
--- the pairs after are those before, and all of which P holds, and no more than those of which Q holds
-pub record GainsBetween (P Q : Pair → Type 0) (before after : List Pair) : Type 0 where
-  pub has : (p : Pair) → Includes before p ⊎ P p → Includes after p
-  pub only : (p : Pair) → Includes after p → Includes before p ⊎ Q p
+-- the numbers are made of the first ones, and of the first n cells each is noted or its pairs are level
+pub record IsUnderWay (pairs : List (List ℕ)) (first : List ℕ) (n : ℕ) (numbers noted : List ℕ) : Type 0 where
+  pub made : IsMadeOf pairs first numbers
+  pub level : (c d : ℕ) → c < n → IsRowWith pairs d c → Includes noted c ⊎ IsLevel numbers c d
 
 -- each number below n in its own place
 pub record AreOwn (n : ℕ) (numbers : List ℕ) : Type 0 where

@@ -43,3 +43,8 @@ pub record AreLists (R : ℕ → ℕ → Type 0) (n : ℕ) (rows : List (List �
 -- the list has gained exactly the numbers of which P holds
 abbrev pub Gathers : (ℕ → Type 0) → List ℕ → List ℕ → Type 0
 Gathers P before after = (x : ℕ) → (Includes after x ↔ (Includes before x ⊎ P x))
+
+-- the list has gained the numbers of which P holds, and no others than those of which Q holds
+pub record GathersBetween (P Q : ℕ → Type 0) (before after : List ℕ) : Type 0 where
+  pub has : (x : ℕ) → Includes before x ⊎ P x → Includes after x
+  pub only : (x : ℕ) → Includes after x → Includes before x ⊎ Q x

@@ -50,7 +50,7 @@ fn class_numbers(
 {
     let pairs = side_pairs(alloc, cells, lanes, nearby)?;
     let mut numbers = own_numbers(alloc, cells.len())?;
-    settle(&pairs, &mut numbers);
+    settle(alloc, &mut numbers, &pairs, cells.len())?;
     Ok(numbers)
 }
 

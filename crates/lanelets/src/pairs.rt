@@ -1,28 +1,27 @@
-//! The pairs of cells that lie side by side.
+//! Pairs of cells that lie side by side, through which all that do are joined.
 
-ghost use Rattle.std.specs.Prelude.{◌≡◌, ◌<◌, ◌≤◌, ℕ, List, length, OnOk, IfOk};
+ghost use Rattle.std.specs.Prelude.{◌≡◌, ◌⊎◌, ◌<◌, ◌≤◌, ℕ, List, length, slice_get, take, Some, OnOk, IfOk};
 ghost use Rattle.std.specs.List.{AllByRecursion};
 ghost use Rattle.spot_terms.specs.Cells.{Lane};
 ghost use Rattle.spot_terms.specs.Lists.{Includes, Pairwise};
-ghost use Rattle.lanelets.specs.Beside.{AreSidePairs, HasSidesIn, SidesAmong, SidesOf};
+ghost use Rattle.spot_terms.specs.Network.{IsSide};
+ghost use Rattle.lanelets.specs.Beside.{ArePairs, ArePairsOf, HasPairsIn, IsPair};
 ghost use Rattle.lanelets.specs.Kept.{IsKept};
-ghost use Rattle.lanelets.specs.Levels.{Gains, GainsBetween};
-ghost use Rattle.lanelets.specs.Listing.{AreBelow};
+ghost use Rattle.lanelets.specs.Listing.{AreBelow, Gathers, GathersBetween};
 ghost use Rattle.lanelets.specs.Nearby.{AreKept};
 ghost use Rattle.lanelets.specs.Steps.{net_of, IsInside, IsOfLane};
 
 use crate::kept::{KeptLane, are_side_cells, have_as_many_points};
-use crate::levels::Pair;
 use crate::nearby::{Nearby, lane_at_cell, piece_number};
-use crate::numbers::list_at;
+use crate::numbers::{Numbers, list_at};
 use crate::placed::PlacedCells;
 use crate::steps::origin_at;
 use spot_terms::Origin;
 use std::alloc::{AllocError, Global};
 
-// Adds the pairs of a cell and each of the list that lies beside it.
-fn push_among(
-    pairs: &mut Vec<Pair>,
+// Adds each cell of the list that lies beside the cell.
+fn add_among(
+    pairs: &mut Numbers,
     cells: &PlacedCells,
     lanes: &[KeptLane],
     c: u32,
@@ -31,21 +30,30 @@ fn push_among(
     requires inside { AllByRecursion (λ p. IsInside (length lanes.now) p.origin) cells.now }
     requires within { c < length cells.now }
     requires list { AreBelow (length cells.now) list.now }
-    ensures { OnOk result ((every : List Lane) → Pairwise IsKept every lanes.now → Gains (SidesAmong every (net_of cells.now) c (Includes list.now)) pairs.old.items pairs.new.items) }
+    ensures { OnOk result ((every : List Lane) → Pairwise IsKept every lanes.now → Gathers (λ d. Includes list.now d × IsSide every (net_of cells.now) c d) pairs.old pairs.new) }
 {
     for d in list {
         if are_side_cells(cells, lanes, c, *d) {
-            pairs.push(Pair {
-                from: c as usize,
-                to: *d as usize,
-            })?;
+            pairs.push(*d)?;
         }
     }
     Ok(())
 }
 
-// Cells of which those of the lanelet at `f` that lie beside the cell are some: of lanelets with equal numbers of points
-// those of the same piece.
+// All cells of the other list where the cell is the first of its own list, and else the first of them alone.
+fn all_or_first<'a>(own: &[u32], other: &'a [u32], c: u32) -> &'a [u32]
+    ensures all { slice_get own.now 0 ≡ Some c → result.now ≡ other.now }
+    ensures some { (result.now ≡ other.now) ⊎ (result.now ≡ take 1 other.now) }
+{
+    if other.is_empty() || (!own.is_empty() && own[0] == c) {
+        other
+    } else {
+        &other[..1]
+    }
+}
+
+// Cells of which those of the lanelet at `f` that are paired with the cell are some: of lanelets with equal numbers of
+// points those of the same piece.
 fn candidates<'a>(
     cells: &PlacedCells,
     lanes: &[KeptLane],
@@ -58,21 +66,21 @@ fn candidates<'a>(
     requires within { c < length cells.now }
     requires lane { f < length lanes.now }
     ensures below { AreBelow (length cells.now) result.now }
-    ensures all { (every : List Lane) → AreKept every (net_of cells.now) lanes.now nearby.now → HasSidesIn every (net_of cells.now) c f result.now }
+    ensures all { (every : List Lane) → AreKept every (net_of cells.now) lanes.now nearby.now → HasPairsIn every (net_of cells.now) c f result.now }
 {
     let Origin::Part { lane, piece, .. } = origin_at(cells, c) else {
         return list_at(&nearby.parts, f);
     };
     if !have_as_many_points(lanes, lane, f) {
-        return list_at(&nearby.parts, f);
+        return all_or_first(list_at(&nearby.parts, lane), list_at(&nearby.parts, f), c);
     }
     let number = piece_number(&nearby.parts, f, piece, cells.len());
     list_at(&nearby.pieces, number)
 }
 
-// Adds pairs of a cell and of those that lie beside it, among them all in the lanelets at these positions.
-fn push_near(
-    pairs: &mut Vec<Pair>,
+// Adds cells that lie beside the cell, among them all in the lanelets at these positions that are paired with it.
+fn add_near(
+    pairs: &mut Numbers,
     cells: &PlacedCells,
     lanes: &[KeptLane],
     nearby: &Nearby,
@@ -83,10 +91,10 @@ fn push_near(
     requires kept { (every : List Lane) × AreKept every (net_of cells.now) lanes.now nearby.now }
     requires within { c < length cells.now }
     requires near { AreBelow (length lanes.now) near.now }
-    ensures { OnOk result ((every : List Lane) → AreKept every (net_of cells.now) lanes.now nearby.now → GainsBetween (SidesAmong every (net_of cells.now) c (λ d. (f : ℕ) × Includes near.now f × IsOfLane (net_of cells.now) d f)) (SidesOf every (net_of cells.now) c) pairs.old.items pairs.new.items) }
+    ensures { OnOk result ((every : List Lane) → AreKept every (net_of cells.now) lanes.now nearby.now → GathersBetween (λ d. IsPair every (net_of cells.now) c d × ((f : ℕ) × Includes near.now f × IsOfLane (net_of cells.now) d f)) (IsSide every (net_of cells.now) c) pairs.old pairs.new) }
 {
     for f in near {
-        push_among(
+        add_among(
             pairs,
             cells,
             lanes,
@@ -97,47 +105,49 @@ fn push_near(
     Ok(())
 }
 
-// Adds the pairs of a cell and each that lies beside it.
-fn push_sides(
-    pairs: &mut Vec<Pair>,
+// Cells that lie beside the cell, among them all that are paired with it.
+fn pairs_of(
+    alloc: Global,
     cells: &PlacedCells,
     lanes: &[KeptLane],
     nearby: &Nearby,
     c: u32,
-) -> Result<(), AllocError>
+) -> Result<Numbers, AllocError>
     requires inside { AllByRecursion (λ p. IsInside (length lanes.now) p.origin) cells.now }
     requires kept { (every : List Lane) × AreKept every (net_of cells.now) lanes.now nearby.now }
     requires within { c < length cells.now }
-    ensures { OnOk result ((every : List Lane) → AreKept every (net_of cells.now) lanes.now nearby.now → Gains (SidesOf every (net_of cells.now) c) pairs.old.items pairs.new.items) }
+    ensures { IfOk result (λ pairs. (every : List Lane) → AreKept every (net_of cells.now) lanes.now nearby.now → ArePairsOf every (net_of cells.now) c pairs) }
 {
-    match lane_at_cell(cells, c) {
-        Some(e) => push_near(
-            pairs,
+    let mut pairs = Numbers::new(alloc);
+    if let Some(e) = lane_at_cell(cells, c) {
+        add_near(
+            &mut pairs,
             cells,
             lanes,
             nearby,
             c,
             list_at(&nearby.neighbours, e),
-        ),
-        None => Ok(()),
+        )?;
     }
+    Ok(pairs)
 }
 
-/// The pairs of cells that lie side by side. Only cells of lanelets one of which lists the other as a neighbour are
-/// compared.
+/// For each cell some that lie beside it, so that each two cells that lie side by side are joined through these. Of
+/// lanelets with unlike numbers of points, where each cell of the one lies beside each of the other, only pairs with the
+/// first cell of either are among them.
 pub(crate) fn side_pairs(
     alloc: Global,
     cells: &PlacedCells,
     lanes: &[KeptLane],
     nearby: &Nearby,
-) -> Result<Vec<Pair>, AllocError>
+) -> Result<Vec<Numbers>, AllocError>
     requires inside { AllByRecursion (λ p. IsInside (length lanes.now) p.origin) cells.now }
     requires kept { (every : List Lane) × AreKept every (net_of cells.now) lanes.now nearby.now }
-    ensures { IfOk result (λ pairs. (every : List Lane) → AreKept every (net_of cells.now) lanes.now nearby.now → AreSidePairs every (net_of cells.now) pairs.items) }
+    ensures { IfOk result (λ pairs. (every : List Lane) → AreKept every (net_of cells.now) lanes.now nearby.now → ArePairs every (net_of cells.now) (length cells.now) pairs.items) }
 {
-    let mut pairs = Vec::new(alloc);
+    let mut pairs = Vec::with_capacity(alloc, cells.len() as usize)?;
     for c in 0..cells.len() {
-        push_sides(&mut pairs, cells, lanes, nearby, c)?;
+        pairs.push(pairs_of(alloc, cells, lanes, nearby, c)?)?;
     }
     Ok(pairs)
 }

@@ -3,6 +3,7 @@ use Rattle.std.specs.List.{AllByRecursion}
 use Rattle.spot_terms.specs.Lists.{Includes}
 use Rattle.spot_terms.specs.Routes.{IsStartCell}
 use Rattle.spot_terms.proofs.ListLemmas.{all_of}
+use Rattle.lane_paths.proofs.ClosedLaws.{all_none}
 use Rattle.lane_paths.proofs.LabelLaws.{begun_places, search_labels}
 use Rattle.lane_paths.proofs.label_table.labels.Goals as goal
 
@@ -11,6 +12,9 @@ relax_start-requires-clause-places c = begun_places c.args.net.now c.len.result 
 
 pub relax_start-requires-clause-starts : goal.relax_start-requires-clause-starts
 relax_start-requires-clause-starts c = subst (λ starts. AllByRecursion (IsStartCell c.args.net.now c.args.start) starts) (sym c.list.ensures) (all_of (IsStartCell c.args.net.now c.args.start) c.in_ok-starts.starts c.in_ok-starts.ensures.list.each)
+
+pub relax_start-requires-clause-closed : goal.relax_start-requires-clause-closed
+relax_start-requires-clause-closed c = all_none c.args.net.now c.in_ok-search.search.lengths.items c.new-closed.result c.new-closed.ensures.blocks c.new-closed.ensures.classes
 
 pub returns : goal.returns
 returns c = search_labels c.args.net.now c.args.start c.args.limit c.len.result c.list.result.now c.in_ok-search.search c.relax_start.new.search c.relax_all.new.search c.into_labels.result.items

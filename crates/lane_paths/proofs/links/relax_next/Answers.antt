@@ -1,4 +1,4 @@
-use Rattle.std.proofs.Common.{◌∙◌, ◌<◌, ◌≤◌, ℕ, true, false, refl, arith}
+use Rattle.std.proofs.Common.{◌∙◌, ◌<◌, ◌≤◌, ℕ, refl, arith}
 use Rattle.std.specs.Prelude.{pos}
 use Rattle.lane_paths.specs.Relaxations.{size_of}
 use Rattle.lane_paths.proofs.ShortestLengthLaws.{taken, taken_within, taken_places, taken_less, passed_over, gone_on, places_same}
@@ -6,16 +6,16 @@ use Rattle.spot_terms.proofs.Orders.{true_not_false}
 use Rattle.lane_paths.proofs.links.relax_next.Goals as goal
 
 pub returns-in_default-clause-places : goal.returns-in_default-clause-places
-returns-in_default-clause-places c = places_same c.args.net.now c.args.search.now _ refl refl c.in_default.ensures.same c.requires
+returns-in_default-clause-places c = places_same c.args.net.now c.args.search.now _ refl refl c.in_default.ensures.same c.requires.places
 
 pub returns-in_default-clause-none : goal.returns-in_default-clause-none
 returns-in_default-clause-none c = λ e. c.in_default.ensures.same ∙ c.in_default.ensures.none
 
 pub is_current-requires-clause-within : goal.is_current-requires-clause-within
-is_current-requires-clause-within c = taken_within c.args.net.now c.in-Some.so_far c.in-Some.d c.args.search.now _ c.requires (taken c.in-Some.so_far c.in-Some.d c.args.search.now c.pop.new.self c.in-Some.ensures.some)
+is_current-requires-clause-within c = taken_within c.args.net.now c.in-Some.so_far c.in-Some.d c.args.search.now _ c.requires.places (taken c.in-Some.so_far c.in-Some.d c.args.search.now c.pop.new.self c.in-Some.ensures.some)
 
 pub returns-then-not-is_current-clause-places : goal.returns-then-not-is_current-clause-places
-returns-then-not-is_current-clause-places c = taken_places c.args.net.now c.in-Some.so_far c.in-Some.d c.args.search.now _ c.requires (taken c.in-Some.so_far c.in-Some.d c.args.search.now c.pop.new.self c.in-Some.ensures.some)
+returns-then-not-is_current-clause-places c = taken_places c.args.net.now c.in-Some.so_far c.in-Some.d c.args.search.now _ c.requires.places (taken c.in-Some.so_far c.in-Some.d c.args.search.now c.pop.new.self c.in-Some.ensures.some)
 
 pub returns-then-not-is_current-clause-less : goal.returns-then-not-is_current-clause-less
 returns-then-not-is_current-clause-less c = λ e. taken_less c.in-Some.so_far c.in-Some.d c.args.search.now _ (taken c.in-Some.so_far c.in-Some.d c.args.search.now c.pop.new.self c.in-Some.ensures.some)
@@ -25,12 +25,12 @@ returns-then-not-is_current-clause-under_way c = λ p first. passed_over c.args.
     (λ at. true_not_false c.is_current.result (c.is_current.ensures.1 at) c.if-not-is_current.true)
 
 pub relax_entry-requires-clause-places : goal.relax_entry-requires-clause-places
-relax_entry-requires-clause-places c = taken_places c.args.net.now c.in-Some.so_far c.in-Some.d c.args.search.now _ c.requires (taken c.in-Some.so_far c.in-Some.d c.args.search.now c.pop.new.self c.in-Some.ensures.some)
+relax_entry-requires-clause-places c = taken_places c.args.net.now c.in-Some.so_far c.in-Some.d c.args.search.now _ c.requires.places (taken c.in-Some.so_far c.in-Some.d c.args.search.now c.pop.new.self c.in-Some.ensures.some)
 
 pub relax_entry-requires-clause-within : goal.relax_entry-requires-clause-within
 relax_entry-requires-clause-within c =
-    let low = taken_within c.args.net.now c.in-Some.so_far c.in-Some.d c.args.search.now _ c.requires (taken c.in-Some.so_far c.in-Some.d c.args.search.now c.pop.new.self c.in-Some.ensures.some) in
-    let n = c.requires.count_is in
+    let low = taken_within c.args.net.now c.in-Some.so_far c.in-Some.d c.args.search.now _ c.requires.places (taken c.in-Some.so_far c.in-Some.d c.args.search.now c.pop.new.self c.in-Some.ensures.some) in
+    let n = c.requires.places.count_is in
     omega (arith, low, n)
 
 pub returns-clause-limit : goal.returns-clause-limit
@@ -47,4 +47,4 @@ returns-clause-less c = λ e.
 
 pub returns-clause-under_way : goal.returns-clause-under_way
 returns-clause-under_way c = λ p first.
-    gone_on c.args.net.now p first c.in-Some.so_far c.in-Some.d c.args.search.now _ c.relax_entry.new.search c.requires (taken c.in-Some.so_far c.in-Some.d c.args.search.now c.pop.new.self c.in-Some.ensures.some) (c.is_current.ensures.0 c.if-not-is_current.false) (c.in_ok-relax_entry.ensures.relaxes p)
+    gone_on c.args.net.now p first c.in-Some.so_far c.in-Some.d c.args.search.now _ c.relax_entry.new.search c.requires.places (taken c.in-Some.so_far c.in-Some.d c.args.search.now c.pop.new.self c.in-Some.ensures.some) (c.is_current.ensures.0 c.if-not-is_current.false) (c.in_ok-relax_entry.ensures.relaxes p)

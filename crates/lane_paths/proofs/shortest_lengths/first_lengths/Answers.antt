@@ -1,5 +1,6 @@
 use Rattle.std.proofs.Common.{◌≡◌, ◌+◌, arith, subst}
-use Rattle.lane_paths.proofs.LengthLists.{AreNone, none_none, none_more, first_last}
+use Rattle.lane_paths.specs.Edges.{AreNone}
+use Rattle.lane_paths.proofs.LengthLists.{none_none, none_more, first_last}
 use Rattle.lane_paths.proofs.shortest_lengths.first_lengths.Goals as goal
 
 pub loop-init : goal.loop-init

@@ -1,4 +1,4 @@
-use Rattle.lane_paths.proofs.LengthLists.{AreNone}
+use Rattle.lane_paths.specs.Edges.{AreNone}
 use Rattle.lane_paths.proofs.shortest_lengths.first_lengths.Given as goal
 
 abbrev pub invariant-loop : goal.invariant-loop

@@ -1,9 +1,6 @@
-use Rattle.std.proofs.Common.{sum}
-use Rattle.lanelets.specs.Levels.{IsMadeOf}
+use Rattle.std.specs.Prelude.{◌≡◌, [], length}
+use Rattle.lanelets.specs.Levels.{IsUnderWay}
 use Rattle.lanelets.proofs.levels.settle.Given as goal
 
-abbrev pub invariant-loop : goal.invariant-loop
-invariant-loop l = IsMadeOf l.pairs l.fn.numbers l.numbers
-
-abbrev pub decreases-loop : goal.decreases-loop
-decreases-loop l = sum l.numbers
+abbrev pub invariant-loop-c : goal.invariant-loop-c
+invariant-loop-c l = (length l.numbers ≡ l.count) × (l.noted.items ≡ []) × IsUnderWay l.pairs l.initial.numbers l.c l.numbers l.noted.items
