@@ -47,6 +47,10 @@ impl<'c> Occupied for Noted<'c> {
         }
     }
 
+    fn next(&self, _step: u32, from: u32, _left: i64, _right: i64) -> u32 {
+        from
+    }
+
     ghost upright = { λ _ _ _ x y0 y y1 low high a b. (a.0, record { low = Prim.omega (arith, ints, a.1.low); high = Prim.omega (arith, ints, b.1.high) }) };
 
     ghost in_range = { λ _ _ _ p h. h.1 };

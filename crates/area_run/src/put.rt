@@ -12,7 +12,7 @@ ghost use Rattle.area_run.specs.Stages.{Advances, HasCellRoom, HasRoom, HasSetsB
 use crate::rows::StepRuns;
 use crate::search::column_runs;
 use base_sets::slots_met;
-use carve::{Occupied, SetList, cut};
+use carve::{Occupied, SetList, SetParts, cut_parts};
 use merge_sets::{CellTable, Planes};
 
 /// Adds the sets of all cells of the step, by column, row and run.
@@ -90,7 +90,13 @@ fn put_cell<O: Occupied>(
     ensures planes { planes.new.rows ≡ planes.old.rows }
     ensures room { out.new.room ≡ out.old.room }
 {
-    if let Some(b) = planes.merged(table, col, row, j) {
-        cut(&b, column_runs(runs, col, at.plan.grid.w), out);
+    if planes.go_to(table, col, row, j) {
+        let b = SetParts {
+            col,
+            row,
+            x: planes.x(),
+            y: planes.y(j),
+        };
+        cut_parts(&b, column_runs(runs, col, at.plan.grid.w), out);
     }
 }

@@ -4,13 +4,13 @@ use crate::children::Children;
 use crate::fault::AreaFault;
 use crate::fill::fill;
 use crate::first::first_sets;
-use crate::limits::limit_passed;
+use crate::limits::room_within;
 use crate::plan::Plan;
 use crate::put::put_all;
 use crate::rooms::Rooms;
 use crate::rows::StepRuns;
 use crate::strip::Strip;
-use base_sets::{BaseSet, EgoBounds, EgoStart, Grid};
+use base_sets::{BaseSet, EgoBounds, EgoStart, Grid, OuterBox};
 use carve::{Occupied, SetList};
 use merge_sets::{CellTable, Planes};
 use spot_terms::MOST_STEPS;
@@ -56,10 +56,12 @@ impl<'o, O: Occupied> Model for AreaRun<'o, O> {
 impl<'o, O: Occupied> AreaRun<'o, O> {
     ghost use Rattle.std.specs.Prelude.{◌≡◌, ◌+◌, ◌<◌, ◌≤◌, ◌^◌, [], length, map, IfErr, IfOk};
     ghost use Rattle.spot_terms.specs.Avoidance.{HoldsOrStrikes};
+    ghost use Rattle.spot_terms.specs.Courses.{box_at};
     ghost use Rattle.spot_terms.specs.EgoMotions.{FitsBound};
     ghost use Rattle.spot_terms.specs.RowBoxes.{IsWithinArea};
     ghost use Rattle.spot_terms.specs.StepLists.{IsNextList, IsStepList};
-    ghost use Rattle.base_sets.specs.Values.{AreBounds, AreTicks, IsEgoStart, IsGrid, course_with, value_of};
+    ghost use Rattle.base_sets.specs.Values.{AreBounds, AreBoxPlaces, AreTicks, IsEgoStart, IsGrid, course_with, rect_of_box, value_of};
+    ghost use Rattle.area_run.specs.Greatest.{IsRoomBelow};
     ghost use Rattle.area_run.specs.Passed.{IsRefused};
     ghost use Rattle.area_run.specs.Plans.{IsPlan, course_of, plan_with};
     ghost use Rattle.area_run.specs.Running.{IsOpened, IsVerdict};
@@ -100,27 +102,28 @@ impl<'o, O: Occupied> AreaRun<'o, O> {
             grid: *grid,
             k,
         };
-        if let Some(fault) = limit_passed(&plan, o, steps) {
-            return Err(fault);
+        match room_within(&plan, o, steps) {
+            Ok(rooms) => Ok(AreaRun::with_room(alloc, o, &plan, steps, &rooms)?),
+            Err(fault) => Err(fault),
         }
-        Ok(AreaRun::with_room(alloc, o, &plan, steps)?)
     }
 
-    /// A run at step 0, with room for all its steps.
+    /// A run at step 0, with this room, which all its steps need.
     fn with_room(
         alloc: Global,
         o: &'o O,
         plan: &Plan,
         steps: u32,
+        rooms: &Rooms,
     ) -> Result<AreaRun<'o, O>, AllocError>
         requires plan { IsPlan plan.now }
+        requires rooms { IsRoomBelow (course_of plan.now) (O.count o.now) (O.range o.now) (steps + 1) rooms.now }
         requires steps { steps ≤ MOST_STEPS }
         requires last { steps ≤ O.last o.now }
         requires far { 35_000_000_000_000 ≤ O.far o.now }
         ensures { IfOk result (IsOpened o.now plan.now steps (O.count o.now) (O.hits o.now)) }
     {
-        let rooms = Rooms::up_to(plan, o, steps);
-        let at = StepRuns::open(alloc, o, plan, &rooms)?;
+        let at = StepRuns::open(alloc, o, plan, rooms)?;
         let table = CellTable::open(alloc, rooms.cells)?;
         let planes = Planes::open(alloc, rooms.rows, plan.k)?;
         let children = Children::open(alloc, rooms.rows)?;
@@ -175,6 +178,14 @@ impl<'o, O: Occupied> AreaRun<'o, O> {
         ensures few { length result.now < 2 ^ 64 }
     {
         self.sets.list()
+    }
+
+    /// The box that each motion of the ego is in at the step. Its places are at most 2.1·10^13 µm in size.
+    pub fn outer_box(&self) -> OuterBox
+        ensures exact { rect_of_box result ≡ box_at (course_of self.now.plan) self.now.at }
+        ensures near { AreBoxPlaces 21_000_000_000_000 result }
+    {
+        self.at.plan.outer_box(self.at.step)
     }
 
     /// The step at which the run stands.

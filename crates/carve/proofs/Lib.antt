@@ -4,6 +4,7 @@ pub mod PieceLaws
 pub mod PieceRuns
 pub mod Gathers
 pub mod Linking
+pub mod AmongColumns
 pub mod CutSteps
 mod Shared
 mod BoxSums

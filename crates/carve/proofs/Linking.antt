@@ -1,5 +1,5 @@
 -- Spans that are linked to rows, piece by piece.
-use Rattle.std.proofs.Common.{◌≡◌, ◌∙◌, ◌⊎◌, inl, inr, refl, sym, ap, subst, arith, ℕ, zero, suc, ◌+◌, ◌<◌, ◌≤◌, List, [], ◌∷◌, ◌++◌, length, length-append, append_assoc, sum_by, ℤ, pos, ◌+ℤ◌, ◌-ℤ◌, ◌≤ℤ◌, ◌<ℤ◌, Option, Some, None}
+use Rattle.std.proofs.Common.{◌≡◌, ◌∙◌, ◌⊎◌, inl, inr, refl, sym, ap, subst, arith, ℕ, zero, suc, ◌+◌, ◌<◌, ◌≤◌, List, [], ◌∷◌, ◌++◌, length, length-append, append_assoc, sum_by, ℤ, pos, ◌+ℤ◌, ◌≤ℤ◌, ◌<ℤ◌, Option, Some, None}
 use Rattle.std.specs.Prelude.{◌↔◌, slice_get, slice_set}
 use Rattle.std.specs.Int.{int_max, int_min}
 use Rattle.std.proofs.lemmas.Int.{ints, clamps}
@@ -15,7 +15,7 @@ use Rattle.spot_terms.proofs.ItemPlaces.{get_front, get_last, get_set_either, go
 use Rattle.spot_terms.proofs.Places.{compare3}
 use Rattle.spot_terms.proofs.Sums.{sum_next}
 use Rattle.convex_poly.specs.Runs.{IsSpanOf}
-use Rattle.carve.specs.Linked.{AreLinked, AreRowsTaken, AreSome, AreSpansOf, AreTakenBy, HasRow, HaveSpans, KeepsOthers}
+use Rattle.carve.specs.Linked.{AreLinked, AreRowsTaken, AreSpansOf, AreTakenBy, HasRow, HaveSpans, KeepsOthers}
 use Rattle.carve.specs.declared.linked.Link.{Link}
 use Rattle.carve.specs.declared.runs.Span.{Span}
 use Rattle.carve.proofs.Gathers.{Gathers, gather_front, gather_miss, nothing_gathered}
@@ -307,6 +307,13 @@ module _ (Hits : ℕ → Pt → Type 0) (range : ℕ → ℤ × ℤ) (g : ℤ) (
           linked = (None, none j l, refl);
           taken = record { exact = k.exact; some = λ s i. absurd i; few = omega arith; met = omega arith };
         }
+
+    -- pieces that hold no point take nothing away
+    pub pieces_missed : (heads : List (Option ℕ)) (links : List Link) (n d m : ℕ) → m ≡ n + d → ((p : ℕ) (q : Pt) → n ≤ p → p < m → Hits p q → ⊥) → AreRowsTaken Hits range g first heads links n → AreRowsTaken Hits range g first heads links m
+    pieces_missed heads links n zero m e none h = subst (λ (k : ℕ). AreRowsTaken Hits range g first heads links k) (let z : n ≡ m = omega (arith, e) in z) h
+    pieces_missed heads links n (suc d) m e none h =
+        pieces_missed heads links (n + 1) d m (omega (arith, e)) (λ p q a b. none p q (omega (arith, a)) b)
+        (λ j l. row_missed heads heads links links n j (first +ℤ pos j) (λ x k. none n (record { x = x; y = slot_low g (first +ℤ pos j) }) (omega arith) (omega (arith, e)) k.0) refl refl (h j l))
 
     pub piece_missed : (heads new_heads : List (Option ℕ)) (links new_links : List Link) (n : ℕ) → ((q : Pt) → Hits n q → Within (range n).0 (range n).1 q.y) → (range n).1 <ℤ (range n).0 → new_heads ≡ heads → new_links ≡ links
         → AreRowsTaken Hits range g first heads links n → AreRowsTaken Hits range g first new_heads new_links (n + 1)

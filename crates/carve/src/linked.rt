@@ -3,19 +3,20 @@
 ghost use Rattle.std.specs.Prelude.{◌≡◌, ◌↔◌, ℕ, ℤ, ◌+◌, ◌<◌, ◌≤◌, ◌++◌, ◌∷◌, ◌≤ℤ◌, ◌+ℤ◌, ◌-ℤ◌, pos, [], List, None, Option, Some, length, slice_get, slice_set, sum_by, vec_capacity};
 ghost use Rattle.std.specs.Int.{int_max};
 ghost use Rattle.spot_terms.specs.Courses.{slots_met};
-ghost use Rattle.spot_terms.specs.Grid.{slot};
+ghost use Rattle.spot_terms.specs.Grid.{slot, slot_high, slot_low};
 ghost use Rattle.spot_terms.specs.Lists.{numbers_below};
 ghost use Rattle.spot_terms.specs.RowBoxes.{slots_shared};
 ghost use Rattle.spot_terms.specs.Whole.{Within};
 ghost use Rattle.base_sets.specs.Values.{IsBox, IsGrid};
 ghost use Rattle.carve.specs.Linked.{AreLinked, AreRowsTaken, AreSome, HasRow, KeepsOthers};
-ghost use Rattle.carve.specs.Ranges.{IsRowNear};
+ghost use Rattle.carve.specs.Ranges.{HitsAmong, IsRowNear};
 ghost use Rattle.carve.specs.Taking.{AreSpans, IsTaken};
 ghost use Rattle.carve.specs.declared.runs.Span.{Span as OneSpan};
 
+use crate::among::{columns_of, run_among};
 use crate::boxes::{greater, row_of, rows_shared};
 use crate::occupied::Occupied;
-use crate::rows::{Runs, find_free, push_span, row_ends, run_within};
+use crate::rows::{Runs, find_free, push_span, row_ends};
 use crate::runs::Span;
 use base_sets::{Grid, OuterBox, slots_met};
 use std::alloc::{AllocError, Global};
@@ -28,8 +29,8 @@ pub(crate) struct Link {
     pub(crate) next: Option<usize>,
 }
 
-/// What the pieces of a step take away from the rows of a box: of each row its spans, each linked to the next. A piece is
-/// asked only in the rows that its range of y meets.
+/// What the pieces of a step take away from the rows of a box in its columns: of each row its spans, each linked to the next.
+/// A piece is asked only where it isn't beside the columns, and in the rows that its range of y meets.
 #[derive(Drop)]
 pub struct RowSpans {
     heads: Vec<Option<usize>>,
@@ -70,8 +71,8 @@ impl RowSpans {
         })
     }
 
-    /// Gathers what the pieces of a step take away from the rows of a box, in place of what is there. There is room for the
-    /// rows and for the row boxes of the box.
+    /// Gathers what the pieces of a step take away from the rows of a box in its columns, in place of what is there. There is
+    /// room for the rows and for the row boxes of the box.
     pub fn gather<O: Occupied>(&mut self, o: &O, step: u32, b: &OuterBox, grid: &Grid)
         requires step { step ≤ O.last o.now }
         requires reach { IsBox b.now }
@@ -79,7 +80,7 @@ impl RowSpans {
         requires near { (row : ℤ) → Within (slot grid.now.g b.now.ylo) (slot grid.now.g b.now.yhi) row → IsRowNear (O.far o.now) grid.now.g row }
         requires rows { slots_met grid.now.g b.now.ylo b.now.yhi ≤ self.old.rows }
         requires room { row_boxes_in grid.now.w grid.now.g (rect_of_box b.now) (O.count o.now step) (O.range o.now step) ≤ self.old.room }
-        ensures taken { AreRowsTaken (O.hits o.now step) (O.range o.now step) grid.now.g (slot grid.now.g b.now.ylo) self.new.heads self.new.links (O.count o.now step) }
+        ensures taken { AreRowsTaken (HitsAmong (slot_low grid.now.w (slot grid.now.w b.now.xlo)) (slot_high grid.now.w (slot grid.now.w b.now.xhi)) (O.hits o.now step)) (O.range o.now step) grid.now.g (slot grid.now.g b.now.ylo) self.new.heads self.new.links (O.count o.now step) }
         ensures count { length self.new.heads ≡ slots_met grid.now.g b.now.ylo b.now.yhi }
         ensures pieces { self.new.pieces ≡ O.count o.now step }
         ensures rows { self.new.rows ≡ self.old.rows }
@@ -88,7 +89,8 @@ impl RowSpans {
         self.links.clear();
         clear_heads(&mut self.heads, slots_met(grid.g, b.ylo, b.yhi));
         self.pieces = o.pieces(step);
-        put_pieces(&mut self.heads, &mut self.links, o, step, b, grid);
+        let columns = columns_of(b, grid);
+        put_pieces(&mut self.heads, &mut self.links, o, step, &columns, b, grid);
     }
 
     /// Lists the free runs of all columns of the box in the `j`-th row, from left to right, in place of what is there.
@@ -125,12 +127,14 @@ fn clear_heads(heads: &mut Vec<Option<usize>>, rows: u64)
     }
 }
 
-// Links what the pieces of the step take away from the rows of the box, which have no span yet.
+// Links what the pieces of the step take away from the rows of the box in its columns. The rows have no span yet. A piece
+// beside the columns isn't asked.
 fn put_pieces<O: Occupied>(
     heads: &mut [Option<usize>],
     links: &mut Vec<Link>,
     o: &O,
     step: u32,
+    columns: &Span,
     b: &OuterBox,
     grid: &Grid,
 )
@@ -142,24 +146,28 @@ fn put_pieces<O: Occupied>(
     requires none { (j : ℕ) → j < length heads.old → slice_get heads.old j ≡ Some None }
     requires empty { links.old.items ≡ [] }
     requires room { sum_by (λ p. slots_shared grid.now.g (O.range o.now step p) (b.now.ylo, b.now.yhi)) (numbers_below (O.count o.now step)) ≤ vec_capacity links.old }
-    ensures taken { AreRowsTaken (O.hits o.now step) (O.range o.now step) grid.now.g (slot grid.now.g b.now.ylo) heads.new links.new.items (O.count o.now step) }
+    ensures taken { AreRowsTaken (HitsAmong columns.now.first columns.now.last (O.hits o.now step)) (O.range o.now step) grid.now.g (slot grid.now.g b.now.ylo) heads.new links.new.items (O.count o.now step) }
     ensures count { length heads.new ≡ length heads.old }
     ensures capacity { vec_capacity links.old ≤ vec_capacity links.new }
 {
-    for piece in 0..o.pieces(step) {
+    let count = o.pieces(step);
+    let mut piece = o.next(step, 0, columns.first, columns.last);
+    while piece < count {
         if let Some((low, high)) = o.span(step, piece) {
-            put_piece(heads, links, o, step, piece, low, high, b, grid);
+            put_piece(heads, links, o, step, piece, columns, low, high, b, grid);
         }
+        piece = o.next(step, piece + 1, columns.first, columns.last);
     }
 }
 
-// Links what the piece, whose y go from `low` to `high`, takes away from the rows of the box.
+// Links what the piece, whose y go from `low` to `high`, takes away from the rows of the box in its columns.
 fn put_piece<O: Occupied>(
     heads: &mut [Option<usize>],
     links: &mut Vec<Link>,
     o: &O,
     step: u32,
     piece: u32,
+    columns: &Span,
     low: i64,
     high: i64,
     b: &OuterBox,
@@ -173,9 +181,9 @@ fn put_piece<O: Occupied>(
     requires grid { IsGrid grid.now }
     requires near { (row : ℤ) → Within (slot grid.now.g b.now.ylo) (slot grid.now.g b.now.yhi) row → IsRowNear (O.far o.now) grid.now.g row }
     requires count { length heads.old ≡ slots_met grid.now.g b.now.ylo b.now.yhi }
-    requires taken { AreRowsTaken (O.hits o.now step) (O.range o.now step) grid.now.g (slot grid.now.g b.now.ylo) heads.old links.old.items piece }
+    requires taken { AreRowsTaken (HitsAmong columns.now.first columns.now.last (O.hits o.now step)) (O.range o.now step) grid.now.g (slot grid.now.g b.now.ylo) heads.old links.old.items piece }
     requires room { length links.old.items + slots_shared grid.now.g (low, high) (b.now.ylo, b.now.yhi) ≤ vec_capacity links.old }
-    ensures taken { AreRowsTaken (O.hits o.now step) (O.range o.now step) grid.now.g (slot grid.now.g b.now.ylo) heads.new links.new.items (piece + 1) }
+    ensures taken { AreRowsTaken (HitsAmong columns.now.first columns.now.last (O.hits o.now step)) (O.range o.now step) grid.now.g (slot grid.now.g b.now.ylo) heads.new links.new.items (piece + 1) }
     ensures count { length heads.new ≡ length heads.old }
     ensures few { length links.new.items ≤ length links.old.items + slots_shared grid.now.g (low, high) (b.now.ylo, b.now.yhi) }
     ensures capacity { vec_capacity links.old ≤ vec_capacity links.new }
@@ -190,6 +198,7 @@ fn put_piece<O: Occupied>(
             o,
             step,
             piece,
+            columns,
             (low, high),
             row,
             grid.g,
@@ -209,13 +218,14 @@ fn rows_before(low: i64, b: &OuterBox, g: i64) -> u64
     (greater(row_of(g, low), first) - first) as u64
 }
 
-// Links what the piece, whose range is known, takes away from a row, which is the `j`-th.
+// Links what the piece, whose range is known, takes away from a row in the columns. The row is the `j`-th.
 fn put_row<O: Occupied>(
     heads: &mut [Option<usize>],
     links: &mut Vec<Link>,
     o: &O,
     step: u32,
     piece: u32,
+    columns: &Span,
     range: (i64, i64),
     row: i64,
     g: i64,
@@ -227,16 +237,16 @@ fn put_row<O: Occupied>(
     requires height { Within (pos 100_000) (pos 100_000_000) g }
     requires near { IsRowNear (O.far o.now) g row }
     requires row { j < length heads.old }
-    requires has { HasRow (O.hits o.now step) (O.range o.now step) g heads.old links.old.items piece j row }
+    requires has { HasRow (HitsAmong columns.now.first columns.now.last (O.hits o.now step)) (O.range o.now step) g heads.old links.old.items piece j row }
     requires room { length links.old.items < vec_capacity links.old }
-    ensures has { HasRow (O.hits o.now step) (O.range o.now step) g heads.new links.new.items (piece + 1) j row }
+    ensures has { HasRow (HitsAmong columns.now.first columns.now.last (O.hits o.now step)) (O.range o.now step) g heads.new links.new.items (piece + 1) j row }
     ensures others { KeepsOthers j heads.old links.old.items heads.new links.new.items }
     ensures count { length heads.new ≡ length heads.old }
     ensures few { length links.new.items ≤ length links.old.items + 1 }
     ensures capacity { vec_capacity links.old ≤ vec_capacity links.new }
 {
     let (low, high) = row_ends(row, g);
-    if let Some((first, last)) = run_within(o, step, piece, range, low, high) {
+    if let Some((first, last)) = run_among(o, step, piece, columns, range, low, high) {
         link_span(heads, links, j, Span { first, last });
     }
 }

@@ -4,7 +4,7 @@ ghost use Rattle.spot_terms.specs.Frames.{at};
 ghost use Rattle.spot_terms.specs.Whole.{SizeAtMost, Within};
 ghost use Rattle.spot_terms.specs.declared.plain.Pt.{Pt};
 ghost use Rattle.convex_poly.specs.Runs.{IsRun};
-ghost use Rattle.carve.specs.Ranges.{IsRange};
+ghost use Rattle.carve.specs.Ranges.{AreBeside, IsRange};
 
 /// What is occupied: at each step up to a last one some pieces, each of which holds whole points of the plane.
 pub trait Occupied {
@@ -43,6 +43,15 @@ pub trait Occupied {
         requires y0_near { SizeAtMost (far self.now) y0 }
         requires y1_near { SizeAtMost (far self.now) y1 }
         ensures { IsRun (λ x. hits self.now step piece (at x y0) × hits self.now step piece (at x y1)) result };
+
+    /// The first piece of the step, from `from` on, that may have a point whose x is from `left` to `right`, or how many pieces
+    /// there are. The pieces before it, from `from` on, have no such point.
+    fn next(&self, step: u32, from: u32, left: i64, right: i64) -> u32
+        requires step { step ≤ last self.now }
+        requires from { from ≤ count self.now step }
+        ensures from { from ≤ result }
+        ensures within { result ≤ count self.now step }
+        ensures beside { AreBeside (hits self.now step) left right from result };
 
     /// The whole points between two points of a piece of equal x lie in the piece.
     ghost upright: { (o : Self) (step piece : ℕ) (x y0 y y1 : ℤ) → y0 ≤ℤ y → y ≤ℤ y1 → hits o step piece (at x y0) → hits o step piece (at x y1) → hits o step piece (at x y) };

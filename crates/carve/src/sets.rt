@@ -4,6 +4,7 @@ ghost use Rattle.std.specs.Prelude.{◌≡◌, ◌+◌, ◌<◌, ◌≤◌, ◌+
 ghost use Rattle.std.specs.List.{AllByRecursion};
 ghost use Rattle.base_sets.specs.Values.{value_of};
 ghost use Rattle.carve.specs.Cuts.{IsCutBy, with_x};
+ghost use Rattle.carve.specs.Parts.{parts_of};
 ghost use Rattle.carve.specs.Ranges.{AreRunPlaces};
 
 use base_sets::BaseSet;
@@ -67,9 +68,18 @@ impl SetList {
     }
 }
 
+/// A base set whose polygons are kept elsewhere.
+#[derive(Clone, Copy)]
+pub struct SetParts<'a> {
+    pub col: i64,
+    pub row: i64,
+    pub x: &'a Poly,
+    pub y: &'a Poly,
+}
+
 // The set with another polygon in the plane of x.
-fn set_with_x(b: &BaseSet, x: Poly) -> BaseSet
-    ensures { value_of result ≡ with_x (value_of b.now) x }
+fn set_with_x(b: &SetParts<'_>, x: Poly) -> BaseSet
+    ensures { value_of result ≡ with_x (parts_of b.now) x }
 {
     BaseSet {
         col: b.col,
@@ -83,6 +93,21 @@ fn set_with_x(b: &BaseSet, x: Poly) -> BaseSet
 ///
 /// The set's x polygon has at most 18 corners, and there is room for as many further sets as there are runs, whose places
 /// are at most 4·10^13 in size. Each whole state of the set whose x lies in a run is held by one of them.
+pub fn cut_parts(b: &SetParts<'_>, runs: &[(i64, i64)], out: &mut SetList)
+    requires corners { length b.now.x.now ≤ 18 }
+    requires places { AreRunPlaces runs.now }
+    requires room { length out.old.sets + length runs.now ≤ out.old.room }
+    ensures sets { IsCutBy (parts_of b.now) runs.now out.old.sets out.new.sets }
+    ensures room { out.new.room ≡ out.old.room }
+{
+    for run in runs {
+        if let Some(x) = part_between(b.x, run.0, run.1) {
+            out.push(set_with_x(b, x));
+        }
+    }
+}
+
+/// The same of a set that has its polygons.
 pub fn cut(b: &BaseSet, runs: &[(i64, i64)], out: &mut SetList)
     requires corners { length b.now.x ≤ 18 }
     requires places { AreRunPlaces runs.now }
@@ -90,9 +115,11 @@ pub fn cut(b: &BaseSet, runs: &[(i64, i64)], out: &mut SetList)
     ensures sets { IsCutBy (value_of b.now) runs.now out.old.sets out.new.sets }
     ensures room { out.new.room ≡ out.old.room }
 {
-    for run in runs {
-        if let Some(x) = part_between(&b.x, run.0, run.1) {
-            out.push(set_with_x(b, x));
-        }
-    }
+    let parts = SetParts {
+        col: b.col,
+        row: b.row,
+        x: &b.x,
+        y: &b.y,
+    };
+    cut_parts(&parts, runs, out);
 }

@@ -48,6 +48,14 @@ impl Occupied for Rectangle {
         }
     }
 
+    fn next(&self, _step: u32, from: u32, left: i64, right: i64) -> u32 {
+        if self.x.1 < left || right < self.x.0 {
+            self.count
+        } else {
+            from
+        }
+    }
+
     ghost upright = { λ r _ _ x y0 y y1 low high a b. (a.0, record { low = Prim.omega (arith, ints, a.1.low); high = Prim.omega (arith, ints, b.1.high) }) };
 
     ghost in_range = { λ _ _ _ p h. h.1 };

@@ -1,9 +1,11 @@
 pub mod FoundPieces
 pub mod Heights
+pub mod Besides
 pub mod Ranks
 pub mod Octagons
 pub mod OneNumber
 pub mod Outsets
+pub mod Pairs
 pub mod PieceLists
 pub mod PutPlaces
 pub mod Starts

@@ -106,24 +106,24 @@ module _ (places : List Place) (interval : ℕ) where
   pub record CountedSoFar (i count : ℕ) (before : List ℕ) : Type 0 where
     pub count_is : count ≡ count_before places interval i
     pub few : count ≤ i
-    pub all : i ≤ length before * 64
-    pub needed : length before * 64 < i + 64
-    pub before_is : (b : ℕ) → b < length before → slice_index_or before b 0 ≡ count_before places interval (b * 64)
+    pub all : i ≤ length before * 16
+    pub needed : length before * 16 < i + 16
+    pub before_is : (b : ℕ) → b < length before → slice_index_or before b 0 ≡ count_before places interval (b * 16)
 
   -- the same with the block that the i-th place is of
   pub record CountedWithBlock (i count : ℕ) (before : List ℕ) : Type 0 where
     pub count_is : count ≡ count_before places interval i
     pub few : count ≤ i
-    pub all : i < length before * 64
-    pub needed : length before * 64 ≤ i + 64
-    pub before_is : (b : ℕ) → b < length before → slice_index_or before b 0 ≡ count_before places interval (b * 64)
+    pub all : i < length before * 16
+    pub needed : length before * 16 ≤ i + 16
+    pub before_is : (b : ℕ) → b < length before → slice_index_or before b 0 ≡ count_before places interval (b * 16)
 
   pub none_counted : (before : List ℕ) → before ≡ [] → CountedSoFar 0 0 before
   none_counted before e = subst (λ (ns : List ℕ). CountedSoFar 0 0 ns) (sym e) (record { count_is = refl; few = omega arith; all = omega arith; needed = omega arith; before_is = λ b h. absurd (omega (arith, h)) })
 
-  pub block_begins : (i count : ℕ) (before more : List ℕ) → i % 64 ≡ 0 → more ≡ before ++ count ∷ [] → CountedSoFar i count before → CountedWithBlock i count more
+  pub block_begins : (i count : ℕ) (before more : List ℕ) → i % 16 ≡ 0 → more ≡ before ++ count ∷ [] → CountedSoFar i count before → CountedWithBlock i count more
   block_begins i count before more e m c =
-      let at : i ≡ length before * 64 = (let a = c.all in let n = c.needed in omega (arith, e, a, n)) in
+      let at : i ≡ length before * 16 = (let a = c.all in let n = c.needed in omega (arith, e, a, n)) in
       let long : length (before ++ count ∷ []) ≡ length before + 1 = length-append before (count ∷ []) in
       subst (λ (ns : List ℕ). CountedWithBlock i count ns) (sym m) (record {
         count_is = c.count_is;
@@ -132,20 +132,20 @@ module _ (places : List Place) (interval : ℕ) where
         needed = omega (arith, at, long);
         before_is = λ b less. elim (below_or_here b (length before) (omega (arith, long, less))) [
           | inl early ↦ front_or before (count ∷ []) b 0 early ∙ c.before_is b early
-          | inr here ↦ last_or before count b 0 here ∙ (c.count_is ∙ ap (count_before places interval) (at ∙ ap (λ (n : ℕ). n * 64) (sym here)))
+          | inr here ↦ last_or before count b 0 here ∙ (c.count_is ∙ ap (count_before places interval) (at ∙ ap (λ (n : ℕ). n * 16) (sym here)))
         ];
       })
 
-  pub block_goes_on : (i count : ℕ) (before : List ℕ) → (i % 64 ≡ 0 → ⊥) → CountedSoFar i count before → CountedWithBlock i count before
+  pub block_goes_on : (i count : ℕ) (before : List ℕ) → (i % 16 ≡ 0 → ⊥) → CountedSoFar i count before → CountedWithBlock i count before
   block_goes_on i count before e c = record {
     count_is = c.count_is;
     few = c.few;
-    all = not_at (i % 64) refl e;
+    all = not_at (i % 16) refl e;
     needed = (let n = c.needed in omega (arith, n));
     before_is = c.before_is;
   }
     where
-      not_at : (r : ℕ) → r ≡ i % 64 → (i % 64 ≡ 0 → ⊥) → i < length before * 64
+      not_at : (r : ℕ) → r ≡ i % 16 → (i % 16 ≡ 0 → ⊥) → i < length before * 16
       not_at zero q f = absurd (f (sym q))
       not_at (suc r) q f = let a = c.all in omega (arith, q, a)
 
@@ -185,7 +185,7 @@ module _ (places : List Place) (interval : ℕ) where
     counts_rise = IsNonDecreasingBy-from_default (λ (n : ℕ). n) counted.before 0 (λ i j h less.
         let a = is.before i (omega (arith, h, less)) in
         let b = is.before j less in
-        let grows : count_before places interval (i * 64) ≤ count_before places interval (j * 64) = front_grows (λ (y : Place). nat_le y.first interval) places (i * 64) (j * 64) (omega (arith, h)) in
+        let grows : count_before places interval (i * 16) ≤ count_before places interval (j * 16) = front_grows (λ (y : Place). nat_le y.first interval) places (i * 16) (j * 16) (omega (arith, h)) in
         omega (arith, a, b, grows))
 
     module _ (rank : ℕ) (below : rank < length (places_in interval places)) where
@@ -197,10 +197,10 @@ module _ (places : List Place) (interval : ℕ) where
 
       -- the block ends behind the place of the rank
       pub block_holds : (block to : ℕ) → block < length counted.before → (block + 1 < length counted.before → rank < slice_index_or counted.before (block + 1) 0)
-          → to ≤ length places → (to ≡ block * 64 + 64) ⊎ (length places ≤ to) → rank < count_before places interval to
+          → to ≤ length places → (to ≡ block * 16 + 16) ⊎ (length places ≤ to) → rank < count_before places interval to
       block_holds block to inside next short (inr end) = subst (λ (xs : List Place). rank < length (places_in interval xs)) (sym (take_all to places end)) below
       block_holds block to inside next short (inl is_to) = elim (below_or_here (block + 1) (length counted.before) (omega (arith, inside))) [
-        | inl early ↦ (let n = next early in let b = is.before (block + 1) early in let e : to ≡ (block + 1) * 64 = omega (arith, is_to) in
+        | inl early ↦ (let n = next early in let b = is.before (block + 1) early in let e : to ≡ (block + 1) * 16 = omega (arith, is_to) in
             subst (λ (i : ℕ). rank < count_before places interval i) (sym e) (omega (arith, n, b)))
         | inr here ↦ (let a = is.all in subst (λ (xs : List Place). rank < length (places_in interval xs)) (sym (take_all to places (omega (arith, a, here, is_to)))) below)
       ]

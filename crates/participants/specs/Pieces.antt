@@ -3,7 +3,7 @@ use Rattle.std.specs.Prelude.{◌≡◌, ℕ, ◌-◌, ◌≤◌, List, [], ◌+
 use Rattle.std.specs.Borrow.{Bor}
 use Rattle.spot_terms.specs.LanePolygons.{LanePolygon}
 use Rattle.spot_terms.specs.OccupiedPieces.{Occupant, AreOccupants, pieces_in, predicted_pieces}
-use Rattle.spot_terms.specs.Pieces.{Piece, octagon, cut_octagon}
+use Rattle.spot_terms.specs.Pieces.{Piece, octagon, cut_octagon, InPiece}
 use Rattle.spot_terms.specs.Whole.{Within}
 use Rattle.spot_terms.specs.declared.plain.Pt.{Pt}
 use Rattle.spot_terms.specs.declared.scenario.Scenario.{Scenario}
@@ -56,6 +56,8 @@ abbrev pub IsFound : Option Piece → OctNumbers → Option (Bor (List Pt)) → 
 IsFound piece o None = piece ≡ Some (octagon o.n)
 IsFound piece o (Some p) = piece ≡ Some (cut_octagon o.n p.now)
 
--- x lies in both spans
-abbrev pub InBoth : ℤ × ℤ → ℤ × ℤ → ℤ → Type 0
-InBoth a b x = Within a.0 a.1 x × Within b.0 b.1 x
+-- ---- beside places of x
+
+-- no point of the piece has one of these x
+abbrev pub IsBeside : Piece → ℤ → ℤ → Type 0
+IsBeside piece left right = (q : Pt) → InPiece piece q → Within left right q.x → ⊥

@@ -55,12 +55,12 @@ pub record PlaceTable : Type 0 where
 abbrev pub count_before : List Place → ℕ → ℕ → ℕ
 count_before places interval i = length (places_in interval (take i places))
 
--- how many places the interval has, and how many of them stand before each block of 64 places
+-- how many places the interval has, and how many of them stand before each block of 16 places
 pub record IsCounted (places : List Place) (interval : ℕ) (counted : Interval) : Type 0 where
   pub count : counted.count ≡ length (places_in interval places)
-  pub all : length places ≤ length counted.before * 64
-  pub needed : length counted.before * 64 < length places + 64
-  pub before : (b : ℕ) → b < length counted.before → slice_index_or counted.before b 0 ≡ count_before places interval (b * 64)
+  pub all : length places ≤ length counted.before * 16
+  pub needed : length counted.before * 16 < length places + 16
+  pub before : (b : ℕ) → b < length counted.before → slice_index_or counted.before b 0 ≡ count_before places interval (b * 16)
 
 abbrev pub no_interval : Interval
 no_interval = record { count = 0; before = [] }

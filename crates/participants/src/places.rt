@@ -22,7 +22,7 @@ pub struct Place {
 }
 
 // How many of all places are a block.
-const BLOCK: usize = 64;
+const BLOCK: usize = 16;
 
 // How many places an interval has, and how many of them stand before each block.
 #[derive(Drop)]
@@ -34,8 +34,8 @@ struct Interval {
 /// The places of all participants, in document order. An interval has those whose first interval isn't later.
 ///
 /// A list of its own for each interval would be the longer the more intervals there are, 100 at most: many times the lane
-/// polygons themselves. So an interval has only a number for each block of 64 places. These numbers rise, so that a binary
-/// search finds the block of a place, and at most 64 places are looked at, however few of them are the interval's.
+/// polygons themselves. So an interval has only a number for each block of 16 places. These numbers rise, so that a binary
+/// search finds the block of a place, and at most 16 places are looked at, however few of them are the interval's.
 #[derive(Drop)]
 pub struct Places {
     items: Vec<Place>,

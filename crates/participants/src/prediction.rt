@@ -1,12 +1,14 @@
 //! The prediction of a scenario.
 
-ghost use Rattle.std.specs.Prelude.{◌≡◌, ◌-◌, ◌<◌, ◌≤◌, ℕ, length, slice_get, IfOk, IfErr};
+ghost use Rattle.std.specs.Prelude.{◌≡◌, ◌-◌, ◌<◌, ◌≤◌, ℕ, length, slice_get, IfOk, IfErr, IsTrue};
 ghost use Rattle.std.specs.List.{AllByRecursion};
 ghost use Rattle.spot_terms.specs.Participants.{starting, HasPairs};
 ghost use Rattle.spot_terms.specs.Ranges.{IsInRange, IsFixedInRange};
 ghost use Rattle.spot_terms.specs.Reach.{disc_numbers};
 ghost use Rattle.spot_terms.specs.Lists.{Pairwise};
 ghost use Rattle.spot_terms.specs.Pieces.{Hits, range_of};
+ghost use Rattle.spot_terms.specs.Whole.{Within};
+ghost use Rattle.spot_terms.specs.declared.plain.Pt.{Pt as Point};
 ghost use Rattle.carve.proofs.PieceLaws.{hits_upright, hits_in_range};
 ghost use Rattle.participants.specs.Outsets.{AreGathered};
 ghost use Rattle.participants.specs.Pieces.{pieces_at, HasPieces, IsFound};
@@ -14,7 +16,7 @@ ghost use Rattle.participants.specs.Predictions.{HoldsMotions, IsSmall, IsSmallI
 
 use crate::outset::outset_of;
 use crate::participant::{Participant, participant_of};
-use crate::pieces::{cut_run, cut_span, octagon_span};
+use crate::pieces::{cut_beside, cut_run, cut_span, octagon_beside, octagon_span};
 use crate::places::{Places, places_of};
 use carve::Occupied;
 use convex_poly::{OctNumbers, Poly};
@@ -86,8 +88,9 @@ impl Prediction {
         &self.fixed
     }
 
-    // What makes a piece of a step: an octagon, and the polygon that it is cut with, where there is one.
-    fn parts(&self, step: u32, piece: u32) -> (&OctNumbers, Option<&Poly>)
+    /// What makes a piece of a step, in the order of the step's pieces: an octagon, whose numbers are at most 10^14 µm in
+    /// size, and the lane polygon that it is cut with, where there is one.
+    pub fn parts(&self, step: u32, piece: u32) -> (&OctNumbers, Option<&Poly>)
         requires step { step ≤ self.now.steps }
         requires piece { piece < length (pieces_at self.now step) }
         ensures small { IsSmall result.0.now }
@@ -100,6 +103,19 @@ impl Prediction {
         let interval = interval_of(step);
         let place = self.places.get(interval, piece - fixed);
         self.participants[place.who as usize].parts(interval, place.which)
+    }
+
+    // Whether a piece of a step is seen to have no point whose x is from `left` to `right`.
+    fn is_beside(&self, step: u32, piece: u32, left: i64, right: i64) -> bool
+        requires step { step ≤ self.now.steps }
+        requires piece { piece < length (pieces_at self.now step) }
+        ensures { IsTrue result → (q : Point) → Hits (pieces_at self.now step) piece q → Within left right q.x → ⊥ }
+    {
+        let (octagon, polygon) = self.parts(step, piece);
+        match polygon {
+            Some(polygon) => cut_beside(octagon, polygon, left, right),
+            None => octagon_beside(octagon, left, right),
+        }
     }
 }
 
@@ -132,6 +148,15 @@ impl Occupied for Prediction {
             Some(polygon) => cut_run(octagon, polygon, y0, y1),
             None => octagon.run(y0, y1),
         }
+    }
+
+    fn next(&self, step: u32, from: u32, left: i64, right: i64) -> u32 {
+        let count = self.pieces(step);
+        let mut piece = from;
+        while piece < count && self.is_beside(step, piece, left, right) {
+            piece += 1;
+        }
+        piece
     }
 
     ghost upright = { λ o step piece x y0 y y1 low high a b. hits_upright (pieces_at o step) piece x y0 y y1 low high a b };

@@ -13,7 +13,7 @@ use Rattle.spot_terms.specs.declared.scenario.Fixed.{Fixed}
 use Rattle.spot_terms.specs.declared.scenario.Mover.{Mover}
 use Rattle.spot_terms.specs.declared.scenario.Scenario.{Scenario}
 use Rattle.spot_terms.proofs.Orders.{below_or_here}
-use Rattle.replay_sets.specs.Discs.{AreStanding, Follows, Recording, discs_at}
+use Rattle.replay_sets.specs.Discs.{AreStanding, Follows, DiscLists, discs_at}
 
 -- one more static obstacle
 pub fixed_more : (radius : ℕ) (fixed : List Fixed) (i : ℕ) (d : Fixed) (discs new : List Disc) (x : Disc) → i < length fixed → discs ≡ map (fixed_disc radius) (take i fixed) → new ≡ discs ++ x ∷ [] → x ≡ fixed_disc radius (get_or fixed i d)
@@ -23,8 +23,8 @@ fixed_more radius fixed i d discs new x h e n is =
     ∙ sym (ap (map (fixed_disc radius)) (take_more fixed i d h) ∙ map-append (fixed_disc radius) (take i fixed) (get_or fixed i d ∷ []))))
 
 -- one more step
-pub step_more : (s : Scenario) (radius n : ℕ) (all new : Recording) (x : List Disc) → AreStanding s radius n all → new ≡ all ++ x ∷ [] → x ≡ map (fixed_disc radius) s.fixed → AreStanding s radius (n + 1) new
-step_more s radius n all new x h e is = subst (λ (r : Recording). AreStanding s radius (n + 1) r) (sym e) (record {
+pub step_more : (s : Scenario) (radius n : ℕ) (all new : DiscLists) (x : List Disc) → AreStanding s radius n all → new ≡ all ++ x ∷ [] → x ≡ map (fixed_disc radius) s.fixed → AreStanding s radius (n + 1) new
+step_more s radius n all new x h e is = subst (λ (r : DiscLists). AreStanding s radius (n + 1) r) (sym e) (record {
   long = length-append all (x ∷ []) ∙ (let l = h.long in omega (arith, l));
   each = λ i less. elim (below_or_here i n less) [
     | inl before ↦ get_or_append_left all (x ∷ []) [] i (let l = h.long in omega (arith, l, before)) ∙ h.each i before
@@ -55,13 +55,13 @@ module _ (radius : ℕ) (m : Mover) where
       other : (n : ℕ) → n ≢ step → (n == step) ≡ false
       other n e = grind (arith, nat_tests)
 
-  pub none_added : (old : Recording) → Follows old old (added_before 0)
+  pub none_added : (old : DiscLists) → Follows old old (added_before 0)
   none_added old = record { long = refl; each = λ i h. sym (append-nil (discs_at old i)) }
 
   -- a state at a step that is there
-  pub put_here : (old now new : Recording) (j : ℕ) (d : ℕ × ℤ × ℤ) (item list : List Disc) → j < length m.recorded → (get_or m.recorded j d).0 < length now → item ≡ get_or now (get_or m.recorded j d).0 []
+  pub put_here : (old now new : DiscLists) (j : ℕ) (d : ℕ × ℤ × ℤ) (item list : List Disc) → j < length m.recorded → (get_or m.recorded j d).0 < length now → item ≡ get_or now (get_or m.recorded j d).0 []
       → list ≡ item ++ recorded_disc radius m (get_or m.recorded j d) ∷ [] → new ≡ set now (get_or m.recorded j d).0 list → Follows old now (added_before j) → Follows old new (added_before (j + 1))
-  put_here old now new j d item list h there was is e f = subst (λ (r : Recording). Follows old r (added_before (j + 1))) (sym e) (record {
+  put_here old now new j d item list h there was is e f = subst (λ (r : DiscLists). Follows old r (added_before (j + 1))) (sym e) (record {
     long = length-set now (get_or m.recorded j d).0 list ∙ f.long;
     each = λ i less. elim (by_number i (get_or m.recorded j d).0) [
       | inl same ↦ get_or-set_at now (get_or m.recorded j d).0 i list [] same there
@@ -76,13 +76,13 @@ module _ (radius : ℕ) (m : Mover) where
       by_number a b = compare3 a b (λ l. inr (λ e. omega (arith, l, e))) (λ e. inl e) (λ l. inr (λ e. omega (arith, l, e)))
 
   -- a state after the last step
-  pub put_past : (old now : Recording) (j : ℕ) (d : ℕ × ℤ × ℤ) → j < length m.recorded → length now ≤ (get_or m.recorded j d).0 → Follows old now (added_before j) → Follows old now (added_before (j + 1))
+  pub put_past : (old now : DiscLists) (j : ℕ) (d : ℕ × ℤ × ℤ) → j < length m.recorded → length now ≤ (get_or m.recorded j d).0 → Follows old now (added_before j) → Follows old now (added_before (j + 1))
   put_past old now j d h past f = record {
     long = f.long;
     each = λ i less. f.each i less ∙ ap (λ (xs : List Disc). discs_at old i ++ xs) (sym (elsewhere j i d h (λ e. let l = f.long in omega (arith, l, e, less, past))));
   }
 
-  pub put_here_in : (items : List (ℕ × ℤ × ℤ)) → items ≡ m.recorded → (old now new : Recording) (j : ℕ) (d : ℕ × ℤ × ℤ) (item list : List Disc) → j < length items → (get_or items j d).0 < length now → item ≡ get_or now (get_or items j d).0 []
+  pub put_here_in : (items : List (ℕ × ℤ × ℤ)) → items ≡ m.recorded → (old now new : DiscLists) (j : ℕ) (d : ℕ × ℤ × ℤ) (item list : List Disc) → j < length items → (get_or items j d).0 < length now → item ≡ get_or now (get_or items j d).0 []
       → list ≡ item ++ recorded_disc radius m (get_or items j d) ∷ [] → new ≡ set now (get_or items j d).0 list → Follows old now (added_before j) → Follows old new (added_before (j + 1))
   put_here_in items same old now new j d item list h there was is e f = put_here old now new j d item list (subst (λ (xs : List (ℕ × ℤ × ℤ)). j < length xs) same h)
       (subst (λ (xs : List (ℕ × ℤ × ℤ)). (get_or xs j d).0 < length now) same there) (subst (λ (xs : List (ℕ × ℤ × ℤ)). item ≡ get_or now (get_or xs j d).0 []) same was)

@@ -7,3 +7,6 @@ mod runs;
 
 pub use recorded::{Discs, Recorded};
 pub use spot_terms::Disc;
+
+#[cfg(test)]
+mod tests;

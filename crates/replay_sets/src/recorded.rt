@@ -61,9 +61,9 @@ pub struct Recorded {
 }
 
 impl Model for Recorded {
-    ghost use Rattle.replay_sets.specs.Discs.{Recording, IsKept};
+    ghost use Rattle.replay_sets.specs.Discs.{DiscLists, IsKept};
 
-    ghost Value = { Recording };
+    ghost Value = { DiscLists };
 
     ghost view = { λ r. r.steps.items };
 
@@ -141,6 +141,10 @@ impl Occupied for Recorded {
     fn run(&self, step: u32, piece: u32, y0: i64, y1: i64) -> Option<(i64, i64)> {
         let d = self.disc(step, piece);
         run_of(d.p, d.r, y0, y1)
+    }
+
+    fn next(&self, _step: u32, from: u32, _left: i64, _right: i64) -> u32 {
+        from
     }
 
     ghost upright = { λ r step piece x y0 y y1 low high a b. hits_upright (pieces_at r step) piece x y0 y y1 low high a b };

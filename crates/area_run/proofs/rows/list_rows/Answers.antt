@@ -1,10 +1,13 @@
-use Rattle.std.proofs.Common.{◌≡◌, ◌∙◌, ◌≤◌, ◌<◌, ◌+◌, ℕ, ℤ, ◌+ℤ◌, pos, List, arith, refl, ap, sym, subst, length, to_z-of_z, FitsSigned, w64}
+use Rattle.std.proofs.Common.{◌≡◌, ◌∙◌, ◌≤◌, ◌<◌, ◌+◌, ℕ, ℤ, ◌+ℤ◌, ◌<ℤ◌, pos, List, arith, refl, ap, sym, subst, length, to_z-of_z, FitsSigned, w64}
+use Rattle.std.proofs.lemmas.Int.{ints}
 use Rattle.spot_terms.specs.Courses.{slots_met}
-use Rattle.spot_terms.specs.Grid.{slot, IsRemoved}
+use Rattle.spot_terms.specs.Grid.{slot, slot_high, slot_low, IsRemoved}
 use Rattle.spot_terms.specs.RowBoxes.{runs_bound}
+use Rattle.spot_terms.specs.Whole.{Within}
 use Rattle.base_sets.specs.Values.{rect_of_box}
 use Rattle.carve.specs.Taking.{IsTaken}
-use Rattle.carve.proofs.RowPlaces.{fits_wide, fits_place, same_cover, same_runs}
+use Rattle.carve.proofs.AmongColumns.{cover_among, runs_among, taken_among}
+use Rattle.carve.proofs.RowPlaces.{fits_wide, fits_place}
 use Rattle.area_laws.proofs.Arguments.{row_near}
 use Rattle.area_run.specs.Plans.{course_of}
 use Rattle.area_run.specs.Rows.{AreRunsOf}
@@ -23,6 +26,9 @@ loop-j-init g c = record {
   capacity = let k = c.clear.ensures.capacity in omega (arith, k);
   ends_capacity = let k = c.clear-2.ensures.capacity in omega (arith, k);
 }
+
+positive : (w : ℤ) → Within (pos 100_000) (pos 100_000_000) w → pos 0 <ℤ w
+positive w h = let k = h.low in omega (arith, ints, k)
 
 within : (a b c d : ℕ) → a ≤ b + c → c ≤ d → a ≤ b + d
 within a b c d h k = omega (arith, h, k)
@@ -53,9 +59,11 @@ push_row-requires-clause-room g c =
     let few : length c.row_runs.new.runs.runs ≤ runs_bound c.args.plan.now.grid.w c.args.plan.now.grid.g (rect_of_box c.args.b.now) (g.O.Occupied.count c.args.o.now c.args.step) (g.O.Occupied.range c.args.o.now c.args.step) row =
     within _ _ _ _ (c.row_runs.ensures.few has.spans has.linked) has.taken.met in
     let are = runs_of c.args.plan.now c.args.step (g.O.Occupied.count c.args.o.now c.args.step) (g.O.Occupied.hits c.args.o.now c.args.step) (g.O.Occupied.range c.args.o.now c.args.step) c.args.b.now c.requires.exact c.requires.reach c.requires.near c.requires.plan.grid row c.row_runs.new.runs.runs
-    (same_runs (IsRemoved (g.O.Occupied.count c.args.o.now c.args.step) hits c.args.plan.now.grid.g row) (IsTaken has.spans) c.args.plan.now.grid.w (slot c.args.plan.now.grid.w c.args.b.now.xlo) (slot c.args.plan.now.grid.w c.args.b.now.xhi) c.row_runs.new.runs.runs has.taken.exact
+    (runs_among (IsRemoved (g.O.Occupied.count c.args.o.now c.args.step) hits c.args.plan.now.grid.g row) (IsTaken has.spans) c.args.plan.now.grid.w (slot c.args.plan.now.grid.w c.args.b.now.xlo) (slot c.args.plan.now.grid.w c.args.b.now.xhi) c.row_runs.new.runs.runs (positive _ c.requires.plan.grid.w)
+    (taken_among (g.O.Occupied.count c.args.o.now c.args.step) hits (slot_low c.args.plan.now.grid.w (slot c.args.plan.now.grid.w c.args.b.now.xlo)) (slot_high c.args.plan.now.grid.w (slot c.args.plan.now.grid.w c.args.b.now.xhi)) c.args.plan.now.grid.g row has.spans has.taken.exact)
     (c.row_runs.ensures.exact has.spans has.linked))
-    (same_cover (IsRemoved (g.O.Occupied.count c.args.o.now c.args.step) hits c.args.plan.now.grid.g row) (IsTaken has.spans) c.args.plan.now.grid.w (slot c.args.plan.now.grid.w c.args.b.now.xlo) (slot c.args.plan.now.grid.w c.args.b.now.xhi) c.row_runs.new.runs.runs has.taken.exact
+    (cover_among (IsRemoved (g.O.Occupied.count c.args.o.now c.args.step) hits c.args.plan.now.grid.g row) (IsTaken has.spans) c.args.plan.now.grid.w (slot c.args.plan.now.grid.w c.args.b.now.xlo) (slot c.args.plan.now.grid.w c.args.b.now.xhi) c.row_runs.new.runs.runs (positive _ c.requires.plan.grid.w)
+    (taken_among (g.O.Occupied.count c.args.o.now c.args.step) hits (slot_low c.args.plan.now.grid.w (slot c.args.plan.now.grid.w c.args.b.now.xlo)) (slot_high c.args.plan.now.grid.w (slot c.args.plan.now.grid.w c.args.b.now.xhi)) c.args.plan.now.grid.g row has.spans has.taken.exact)
     (c.row_runs.ensures.covers has.spans has.linked))
     few in
     let room = row_room c.args.plan.now c.args.step (g.O.Occupied.count c.args.o.now c.args.step) (g.O.Occupied.hits c.args.o.now c.args.step) (g.O.Occupied.range c.args.o.now c.args.step) c.args.b.now c.requires.exact c.requires.reach c.requires.near c.requires.plan.grid c.loop-j.free.items c.row_runs.new.runs.runs c.loop-j.ends.items c.loop-j.j _ row c.loop-j.invariant.rows refl are inside c.requires.boxes in
@@ -85,9 +93,11 @@ loop-j-preserved g c =
     let few : length c.row_runs.new.runs.runs ≤ runs_bound c.args.plan.now.grid.w c.args.plan.now.grid.g (rect_of_box c.args.b.now) (g.O.Occupied.count c.args.o.now c.args.step) (g.O.Occupied.range c.args.o.now c.args.step) row =
     within _ _ _ _ (c.row_runs.ensures.few has.spans has.linked) has.taken.met in
     let are = runs_of c.args.plan.now c.args.step (g.O.Occupied.count c.args.o.now c.args.step) (g.O.Occupied.hits c.args.o.now c.args.step) (g.O.Occupied.range c.args.o.now c.args.step) c.args.b.now c.requires.exact c.requires.reach c.requires.near c.requires.plan.grid row c.row_runs.new.runs.runs
-    (same_runs (IsRemoved (g.O.Occupied.count c.args.o.now c.args.step) hits c.args.plan.now.grid.g row) (IsTaken has.spans) c.args.plan.now.grid.w (slot c.args.plan.now.grid.w c.args.b.now.xlo) (slot c.args.plan.now.grid.w c.args.b.now.xhi) c.row_runs.new.runs.runs has.taken.exact
+    (runs_among (IsRemoved (g.O.Occupied.count c.args.o.now c.args.step) hits c.args.plan.now.grid.g row) (IsTaken has.spans) c.args.plan.now.grid.w (slot c.args.plan.now.grid.w c.args.b.now.xlo) (slot c.args.plan.now.grid.w c.args.b.now.xhi) c.row_runs.new.runs.runs (positive _ c.requires.plan.grid.w)
+    (taken_among (g.O.Occupied.count c.args.o.now c.args.step) hits (slot_low c.args.plan.now.grid.w (slot c.args.plan.now.grid.w c.args.b.now.xlo)) (slot_high c.args.plan.now.grid.w (slot c.args.plan.now.grid.w c.args.b.now.xhi)) c.args.plan.now.grid.g row has.spans has.taken.exact)
     (c.row_runs.ensures.exact has.spans has.linked))
-    (same_cover (IsRemoved (g.O.Occupied.count c.args.o.now c.args.step) hits c.args.plan.now.grid.g row) (IsTaken has.spans) c.args.plan.now.grid.w (slot c.args.plan.now.grid.w c.args.b.now.xlo) (slot c.args.plan.now.grid.w c.args.b.now.xhi) c.row_runs.new.runs.runs has.taken.exact
+    (cover_among (IsRemoved (g.O.Occupied.count c.args.o.now c.args.step) hits c.args.plan.now.grid.g row) (IsTaken has.spans) c.args.plan.now.grid.w (slot c.args.plan.now.grid.w c.args.b.now.xlo) (slot c.args.plan.now.grid.w c.args.b.now.xhi) c.row_runs.new.runs.runs (positive _ c.requires.plan.grid.w)
+    (taken_among (g.O.Occupied.count c.args.o.now c.args.step) hits (slot_low c.args.plan.now.grid.w (slot c.args.plan.now.grid.w c.args.b.now.xlo)) (slot_high c.args.plan.now.grid.w (slot c.args.plan.now.grid.w c.args.b.now.xhi)) c.args.plan.now.grid.g row has.spans has.taken.exact)
     (c.row_runs.ensures.covers has.spans has.linked))
     few in
     let at = ap (λ (z : ℤ). z +ℤ pos c.loop-j.j) (low_is c.args.plan.now c.args.step (g.O.Occupied.count c.args.o.now c.args.step) (g.O.Occupied.hits c.args.o.now c.args.step) (g.O.Occupied.range c.args.o.now c.args.step) c.args.b.now c.requires.exact c.requires.reach c.requires.near c.requires.plan.grid) in

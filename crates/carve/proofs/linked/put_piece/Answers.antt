@@ -1,14 +1,13 @@
-use Rattle.std.proofs.Common.{rules, ◌≡◌, ◌∙◌, ◌<◌, ◌≤◌, ◌+◌, ℕ, ℤ, pos, ◌+ℤ◌, ◌≤ℤ◌, ◌<ℤ◌, arith, refl, sym, ap, subst, length, w64, to_z, of_z, to_z-of_z, FitsSigned}
+use Rattle.std.proofs.Common.{◌≡◌, ◌∙◌, ◌≤◌, ◌+◌, ℕ, ℤ, pos, ◌+ℤ◌, ◌<ℤ◌, arith, refl, sym, ap, subst, w64, to_z, of_z, to_z-of_z, FitsSigned}
 use Rattle.std.specs.Prelude.{nat_abs}
 use Rattle.std.specs.Int.{int_max}
 use Rattle.std.proofs.lemmas.Int.{ints}
-use Rattle.spot_terms.specs.Courses.{slots_met}
 use Rattle.spot_terms.specs.Grid.{slot}
 use Rattle.spot_terms.specs.RowBoxes.{slots_shared}
 use Rattle.spot_terms.specs.Whole.{Within}
 use Rattle.base_sets.proofs.Slots.{slots_are}
 use Rattle.carve.specs.Linked.{HasRow}
-use Rattle.carve.specs.Ranges.{IsRowNear}
+use Rattle.carve.specs.Ranges.{HitsAmong, IsRowNear}
 use Rattle.carve.proofs.RowNumbers.{read, number_back}
 use Rattle.carve.proofs.RowPlaces.{fits_wide, fits_place}
 use Rattle.carve.proofs.Linking.{above_range, below_range, row_among, row_done, rows_begun, rows_earlier, rows_ended, rows_later}
@@ -26,7 +25,7 @@ small first last j h k w = omega (arith, ints, h, k, w.high)
 
 pub loop-j-init : goal.loop-j-init
 loop-j-init g c =
-    let hits = g.O.Occupied.hits c.args.o.now c.args.step in
+    let hits = HitsAmong c.args.columns.now.first c.args.columns.now.last (g.O.Occupied.hits c.args.o.now c.args.step) in
     let range = g.O.Occupied.range c.args.o.now c.args.step in
     let fits_low : FitsSigned w64 c.args.low = c.ranges.low in
     let fits_g : FitsSigned w64 c.args.grid.now.g = fits_wide _ c.requires.grid.g in
@@ -34,7 +33,7 @@ loop-j-init g c =
     let is : slot c.args.grid.now.g c.args.b.now.ylo +ℤ pos c.rows_before-before.result ≡ int_max (slot c.args.grid.now.g c.args.low) (slot c.args.grid.now.g c.args.b.now.ylo) = simp to_z-of_z at c.rows_before-before.ensures.value in
     record {
       rows = rows_begun hits range c.args.grid.now.g wide (slot c.args.grid.now.g c.args.b.now.ylo) c.args.heads.now c.args.links.now.items c.args.piece c.rows_before-before.result
-          (λ i less. below_range hits range c.args.grid.now.g wide c.args.piece (slot c.args.grid.now.g c.args.b.now.ylo +ℤ pos i) (λ q h. g.met.O.Occupied.in_range c.args.o.now c.args.step c.args.piece q h)
+          (λ i less. below_range hits range c.args.grid.now.g wide c.args.piece (slot c.args.grid.now.g c.args.b.now.ylo +ℤ pos i) (λ q h. g.met.O.Occupied.in_range c.args.o.now c.args.step c.args.piece q h.0)
           (subst (λ (s : ℤ × ℤ). (slot c.args.grid.now.g c.args.b.now.ylo +ℤ pos i) <ℤ slot c.args.grid.now.g s.0) c.requires.range
           (rows_earlier c.args.grid.now.g c.args.low c.args.high c.args.b.now.ylo c.args.b.now.yhi wide c.requires.order c.requires.reach.y c.rows_before-before.result is i less)))
           c.requires.taken;
@@ -75,7 +74,7 @@ put_row-requires-clause-row g c =
 
 pub put_row-requires-clause-has : goal.put_row-requires-clause-has
 put_row-requires-clause-has g c =
-    let hits = g.O.Occupied.hits c.args.o.now c.args.step in
+    let hits = HitsAmong c.args.columns.now.first c.args.columns.now.last (g.O.Occupied.hits c.args.o.now c.args.step) in
     let range = g.O.Occupied.range c.args.o.now c.args.step in
     let fits_low : FitsSigned w64 c.args.low = c.ranges.low in
     let fits_high : FitsSigned w64 c.args.high = c.ranges.high in
@@ -105,7 +104,7 @@ put_row-requires-clause-room g c =
 
 pub loop-j-preserved : goal.loop-j-preserved
 loop-j-preserved g c =
-    let hits = g.O.Occupied.hits c.args.o.now c.args.step in
+    let hits = HitsAmong c.args.columns.now.first c.args.columns.now.last (g.O.Occupied.hits c.args.o.now c.args.step) in
     let range = g.O.Occupied.range c.args.o.now c.args.step in
     let fits_low : FitsSigned w64 c.args.low = c.ranges.low in
     let fits_high : FitsSigned w64 c.args.high = c.ranges.high in
@@ -132,7 +131,7 @@ loop-j-preserved g c =
 
 pub returns-clause-taken : goal.returns-clause-taken
 returns-clause-taken g c =
-    let hits = g.O.Occupied.hits c.args.o.now c.args.step in
+    let hits = HitsAmong c.args.columns.now.first c.args.columns.now.last (g.O.Occupied.hits c.args.o.now c.args.step) in
     let range = g.O.Occupied.range c.args.o.now c.args.step in
     let fits_low : FitsSigned w64 c.args.low = c.ranges.low in
     let fits_high : FitsSigned w64 c.args.high = c.ranges.high in
@@ -141,7 +140,7 @@ returns-clause-taken g c =
     let is : slot c.args.grid.now.g c.args.b.now.ylo +ℤ pos c.rows_before-before.result ≡ int_max (slot c.args.grid.now.g c.args.low) (slot c.args.grid.now.g c.args.b.now.ylo) = simp to_z-of_z at c.rows_before-before.ensures.value in
     let met : c.rows_shared.result ≡ slots_shared c.args.grid.now.g (c.args.low, c.args.high) (c.args.b.now.ylo, c.args.b.now.yhi) = simp to_z-of_z at c.rows_shared.ensures.value in
     rows_ended hits range c.args.grid.now.g wide (slot c.args.grid.now.g c.args.b.now.ylo) c.loop-j.heads c.loop-j.links.items c.args.piece c.loop-j.j
-    (λ i l later. above_range hits range c.args.grid.now.g wide c.args.piece (slot c.args.grid.now.g c.args.b.now.ylo +ℤ pos i) (λ q h. g.met.O.Occupied.in_range c.args.o.now c.args.step c.args.piece q h)
+    (λ i l later. above_range hits range c.args.grid.now.g wide c.args.piece (slot c.args.grid.now.g c.args.b.now.ylo +ℤ pos i) (λ q h. g.met.O.Occupied.in_range c.args.o.now c.args.step c.args.piece q h.0)
     (subst (λ (s : ℤ × ℤ). slot c.args.grid.now.g s.1 <ℤ (slot c.args.grid.now.g c.args.b.now.ylo +ℤ pos i)) c.requires.range
     (rows_later c.args.grid.now.g c.args.low c.args.high c.args.b.now.ylo c.args.b.now.yhi wide c.requires.order c.requires.reach.y c.rows_before-before.result is i
     (omega (arith, later, c.loop-j-test.false, met)) (omega (arith, l, c.loop-j.invariant.count, c.requires.count)))))

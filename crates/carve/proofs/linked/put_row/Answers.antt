@@ -1,13 +1,11 @@
-use Rattle.std.proofs.Common.{rules, nat_abs, ◌≡◌, ◌∙◌, ◌<◌, ◌≤◌, ℕ, ◌+◌, ℤ, pos, ◌+ℤ◌, ◌-ℤ◌, ◌≤ℤ◌, ◌<ℤ◌, arith, refl, sym, ap, subst, to_z, of_z, to_z-of_z, FitsSigned, w64, length, length-append, List, [], ◌∷◌, ◌++◌, Option, Some}
+use Rattle.std.proofs.Common.{rules, ◌≡◌, ◌∙◌, ◌≤◌, ◌+◌, ℤ, pos, ◌≤ℤ◌, ◌<ℤ◌, arith, refl, subst, to_z, of_z, to_z-of_z, FitsSigned, w64, length, length-append, List, [], ◌∷◌, ◌++◌}
 use Rattle.std.proofs.lemmas.Int.{ints}
-use Rattle.std.specs.Prelude.{slice_get}
 use Rattle.spot_terms.specs.Grid.{slot_low, slot_high}
 use Rattle.spot_terms.specs.Whole.{Within}
 use Rattle.spot_terms.proofs.ItemPlaces.{item_at}
-use Rattle.convex_poly.specs.Runs.{IsSpanOf}
-use Rattle.carve.specs.Linked.{HasRow, KeepsOthers}
+use Rattle.carve.specs.Ranges.{HitsAmong}
 use Rattle.carve.specs.declared.linked.Link.{Link}
-use Rattle.carve.proofs.Linking.{across, all_kept, not_across, others_kept, row_hit, row_missed}
+use Rattle.carve.proofs.Linking.{across, not_across, others_kept, row_hit, row_missed}
 use Rattle.carve.proofs.linked.put_row.Goals as goal
 
 positive : (g : ℤ) → Within (pos 100_000) (pos 100_000_000) g → pos 0 <ℤ g
@@ -16,8 +14,8 @@ positive g h = let k = h.low in omega (arith, ints)
 in_order : (g row low high : ℤ) → Within (pos 100_000) (pos 100_000_000) g → low ≡ slot_low g row → high ≡ slot_high g row → low ≤ℤ high
 in_order g row low high w a b = let k = w.low in omega (arith, ints)
 
-pub run_within-requires-clause-ordered : goal.run_within-requires-clause-ordered
-run_within-requires-clause-ordered g c =
+pub run_among-requires-clause-ordered : goal.run_among-requires-clause-ordered
+run_among-requires-clause-ordered g c =
     let fits_row : FitsSigned w64 c.args.row = c.ranges.row in
     let fits_g : FitsSigned w64 c.args.g = c.ranges.g in
     let read_low : to_z w64 (of_z w64 c.row_ends-low.result.0) ≡ c.row_ends-low.result.0 = search rules in
@@ -31,7 +29,7 @@ longer old new l e = rw (e, length-append) (omega arith)
 
 pub returns-in-Some-clause-has : goal.returns-in-Some-clause-has
 returns-in-Some-clause-has g c =
-    let hits = g.O.Occupied.hits c.args.o.now c.args.step in
+    let hits = HitsAmong c.args.columns.now.first c.args.columns.now.last (g.O.Occupied.hits c.args.o.now c.args.step) in
     let range = g.O.Occupied.range c.args.o.now c.args.step in
     let fits_row : FitsSigned w64 c.args.row = c.ranges.row in
     let fits_g : FitsSigned w64 c.args.g = c.ranges.g in
@@ -54,7 +52,7 @@ returns-in-Some-clause-others g c =
 
 pub returns-in_default-clause-has : goal.returns-in_default-clause-has
 returns-in_default-clause-has g c =
-    let hits = g.O.Occupied.hits c.args.o.now c.args.step in
+    let hits = HitsAmong c.args.columns.now.first c.args.columns.now.last (g.O.Occupied.hits c.args.o.now c.args.step) in
     let range = g.O.Occupied.range c.args.o.now c.args.step in
     let fits_row : FitsSigned w64 c.args.row = c.ranges.row in
     let fits_g : FitsSigned w64 c.args.g = c.ranges.g in

@@ -3,8 +3,8 @@ use Rattle.spot_terms.specs.Frames.{at}
 use Rattle.spot_terms.specs.Pieces.{cut_octagon, InPiece}
 use Rattle.spot_terms.specs.Reach.{InOctagon}
 use Rattle.convex_poly.specs.Runs.{IsRun, IsSpanOf}
+use Rattle.carve.specs.Ranges.{InBoth}
 use Rattle.carve.proofs.PieceRuns.{runs_alike}
-use Rattle.participants.specs.Pieces.{InBoth}
 use Rattle.participants.proofs.pieces.cut_run.Goals as goal
 
 plain : (n : List ℤ) (y0 y1 z0 z1 : ℤ) (run : Option (ℤ × ℤ)) → z0 ≡ y0 → z1 ≡ y1 → IsRun (λ x. InOctagon n (at x z0) × InOctagon n (at x z1)) run → IsRun (λ x. InOctagon n (at x y0) × InOctagon n (at x y1)) run
@@ -33,4 +33,4 @@ returns c =
     runs_alike (InBoth c.in_ok-of_octagon.of_octagon c.in_ok-of_polygon.of_polygon) (λ x. InPiece (cut_octagon c.args.o.now.n c.args.p.now) (at x c.args.y0) × InPiece (cut_octagon c.args.o.now.n c.args.p.now) (at x c.args.y1))
     (λ x w. (let h = (a.exact x).1 w.0 in let k = (b.exact x).1 w.1 in ((h.0, k.0), (h.1, k.1))))
     (λ x k. ((a.exact x).0 (k.0.0, k.1.0), (b.exact x).0 (k.0.1, k.1.1)))
-    c.both.result c.both.ensures
+    c.common_span.result c.common_span.ensures

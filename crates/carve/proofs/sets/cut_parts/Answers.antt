@@ -5,16 +5,16 @@ use Rattle.spot_terms.specs.BaseSets.{SetValue}
 use Rattle.spot_terms.specs.ClippedTo.{places}
 use Rattle.spot_terms.proofs.Places.{all_at}
 use Rattle.round_out.specs.Parts.{IsPart, KeepsParts}
-use Rattle.base_sets.specs.Values.{value_of}
 use Rattle.carve.specs.Cuts.{with_x}
+use Rattle.carve.specs.Parts.{parts_of}
 use Rattle.carve.specs.Rooms.{SetRoom}
 use Rattle.carve.proofs.CutSteps.{none_cut, cut_some, cut_none}
 use Rattle.carve.proofs.RowPlaces.{fits_place}
-use Rattle.carve.proofs.sets.cut.Goals as goal
-use Rattle.carve.proofs.sets.cut.Goals.{in-Some, in_default}
+use Rattle.carve.proofs.sets.cut_parts.Goals as goal
+use Rattle.carve.proofs.sets.cut_parts.Goals.{in-Some, in_default}
 
 pub loop-run-init : goal.loop-run-init
-loop-run-init c = record { cut = none_cut (value_of c.args.b.now) c.args.out.now.sets; few = omega arith; room = refl }
+loop-run-init c = record { cut = none_cut (parts_of c.args.b.now) c.args.out.now.sets; few = omega arith; room = refl }
 
 longer : (more new : List SetValue) (c : SetValue) (old i : ℕ) → more ≡ new ++ c ∷ [] → length new ≤ old + i → length more ≤ old + (i + 1)
 longer more new c old i e h = rw (e, length-append) (omega arith)
@@ -24,7 +24,7 @@ as_long more new old i e h = rw e (omega arith)
 
 pub loop-run-preserved : goal.loop-run-preserved
 loop-run-preserved c =
-    let b : SetValue = value_of c.args.b.now in
+    let b : SetValue = parts_of c.args.b.now in
     let run : ℤ × ℤ = get_or c.args.runs.now c.loop-run.run-index (pos 0, pos 0) in
     let more = take_more c.args.runs.now c.loop-run.run-index (pos 0, pos 0) c.loop-run-test.true in
     let sizes : (nat_abs run.0 ≤ 40_000_000_000_000) × (nat_abs run.1 ≤ 40_000_000_000_000) =

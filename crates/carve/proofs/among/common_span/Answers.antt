@@ -1,10 +1,10 @@
-use Rattle.std.proofs.Common.{rules, ◌≡◌, ℤ, ◌≤ℤ◌, ◌<ℤ◌, arith, w64, FitsSigned, to_z-of_z, true, false}
+use Rattle.std.proofs.Common.{rules, ◌≡◌, ℤ, ◌≤ℤ◌, ◌<ℤ◌, arith, w64, FitsSigned, to_z-of_z}
 use Rattle.std.specs.Int.{int_max, int_min}
 use Rattle.std.proofs.lemmas.Int.{ints, clamps}
 use Rattle.convex_poly.specs.Runs.{IsSpanOf}
-use Rattle.participants.specs.Pieces.{InBoth}
+use Rattle.carve.specs.Ranges.{InBoth}
 use Rattle.spot_terms.proofs.Orders.{at_most_of_true, above_of_false}
-use Rattle.participants.proofs.pieces.both.Goals as goal
+use Rattle.carve.proofs.among.common_span.Goals as goal
 
 common : (a b : ℤ × ℤ) (first last : ℤ) → first ≡ int_max a.0 b.0 → last ≡ int_min a.1 b.1 → first ≤ℤ last → IsSpanOf (InBoth a b) (first, last)
 common a b first last e f h = record {
