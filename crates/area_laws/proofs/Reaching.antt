@@ -21,6 +21,7 @@ use Rattle.spot_terms.proofs.ListLemmas.{all_included, all_of}
 use Rattle.spot_terms.proofs.Members.{in_map}
 use Rattle.spot_terms.proofs.OneClip.{clips_not_both}
 use Rattle.spot_terms.proofs.Orders.{reflexive}
+use Rattle.spot_terms.proofs.StepLists.{segment_all}
 use Rattle.base_sets.specs.Values.{AreBoxPlaces, rect_of_box}
 use Rattle.base_sets.specs.declared.grid.OuterBox.{OuterBox}
 use Rattle.propagate.specs.Children.{IsInPlane, IsStepPoint}
@@ -124,14 +125,6 @@ module _ (course : Course) (i : ℕ) (before : List SetValue) (count : ℕ) (Hit
       subst (IsSetInBox course i) (sym e) (cut_inside c ticks (l.each c k))
 
 -- ---- the first list
-
--- the second corner of a segment, where there is one
-second_all : (P : Pt → Type 0) (two : Bool) (q : Pt) → P q → AllByRecursion P (if two then q ∷ [] else [])
-second_all P true q h = (h, tt)
-second_all P false q h = tt
-
-segment_all : (P : Pt → Type 0) (p lo hi : ℤ) → P (at p lo) → P (at p hi) → AllByRecursion P (segment p lo hi)
-segment_all P p lo hi h k = (h, second_all P (int_lt lo hi) (at p hi) k)
 
 module _ (course : Course) (m : ℕ) (b : IsBoxWithin m course.b) (fits : FitsBound course.b course.v) (v : pos 0 ≤ℤ course.v) where
   -- the motion that is at its start alone

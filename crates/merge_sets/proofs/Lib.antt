@@ -15,6 +15,7 @@ pub mod KnownRows
 pub mod Merged
 pub mod PlaneLists
 pub mod Collections
+pub mod Excess
 pub mod Openings
 pub mod Clearings
 pub mod StripItems

@@ -1,7 +1,7 @@
 //! What comes into the cells of a step, and what is merged of it.
 #![tactic(auto)]
 
-ghost use Rattle.merge_sets.specs.Merging.{MergedSetsHold, TablesCollect};
+ghost use Rattle.merge_sets.specs.Merging.{MergedSetsExceed, MergedSetsHold, TablesCollect};
 
 mod adding;
 mod cells;
@@ -26,6 +26,11 @@ pub fn tables_collect()
 /// The set of a cell holds each state there of each pair that came in.
 pub fn merged_sets_hold()
     ensures { MergedSetsHold }
+{}
+
+/// And along each frame normal it exceeds some part that came in by less than the factor of a speed.
+pub fn merged_sets_exceed()
+    ensures { MergedSetsExceed }
 {}
 
 #[cfg(test)]

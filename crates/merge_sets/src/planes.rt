@@ -86,8 +86,9 @@ impl Planes {
         }
     }
 
-    // Goes to a cell: the polygon of x, and that of y of the row, become those of its set. Whether something came in there.
-    fn go_to(&mut self, table: &CellTable, col: i64, row: i64, j: usize) -> bool
+    /// Goes to a cell: the polygon of x, and that of y of the row, become those of its set. Whether something came in there.
+    /// The table's step is one of as many ticks.
+    pub fn go_to(&mut self, table: &CellTable, col: i64, row: i64, j: usize) -> bool
         requires ticks { HasTicks table.now self.old.k }
         requires row { j < self.old.rows }
         ensures merged { AreMergedIn table.now col row j result self.new }
@@ -104,15 +105,15 @@ impl Planes {
         }
     }
 
-    // The polygon of x.
-    fn x(&self) -> &Poly
+    /// The polygon of x.
+    pub fn x(&self) -> &Poly
         ensures { result.now ≡ self.now.x }
     {
         &self.x.poly
     }
 
-    // The polygon of y of a row.
-    fn y(&self, j: usize) -> &Poly
+    /// The polygon of y of a row.
+    pub fn y(&self, j: usize) -> &Poly
         requires { j < self.now.rows }
         ensures { (y : List Pt) → slice_get self.now.ys j ≡ Some y → result.now ≡ y }
     {

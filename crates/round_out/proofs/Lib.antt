@@ -21,3 +21,8 @@ pub mod ClipCases
 pub mod TwoClips
 pub mod Octagons
 pub mod ClipLaws
+pub mod CrossingGrowth
+pub mod ClipGrowth
+pub mod FrameExcess
+pub mod Bounds
+pub mod GreatestOrders

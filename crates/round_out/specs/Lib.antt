@@ -4,3 +4,4 @@ pub mod Frames
 pub mod Clips
 pub mod Parts
 pub mod Octagons
+pub mod Growth

@@ -8,6 +8,7 @@ ghost use Rattle.spot_terms.specs.Clips.{height_above as height_above_of, height
 ghost use Rattle.spot_terms.specs.Whole.{SizeAtMost};
 ghost use Rattle.convex_poly.specs.Polygons.{IsPosition};
 ghost use Rattle.round_out.specs.Clips.{GainsAtMostOne, KeepsSide, StaysInBox, StaysOnSide, reflection};
+ghost use Rattle.round_out.specs.Growth.{GrowsBy, by_place, by_speed, rounded_by};
 
 use arrayvec::ArrayVec;
 use convex_poly::plane::{offset, times};
@@ -29,6 +30,7 @@ pub fn clip_x_max(p: &Poly, c: i64) -> Option<Poly>
     ensures side { StaysOnSide as_it_is c result }
     ensures few { GainsAtMostOne p.now result }
     ensures axes { StaysInBox p.now result }
+    ensures growth { GrowsBy by_speed p.now result }
 {
     clip(p, Side::XMax, c)
 }
@@ -42,6 +44,7 @@ pub fn clip_x_min(p: &Poly, c: i64) -> Option<Poly>
     ensures side { StaysOnSide x_turned (neg_ℤ c) result }
     ensures few { GainsAtMostOne p.now result }
     ensures axes { StaysInBox p.now result }
+    ensures growth { GrowsBy by_speed p.now result }
 {
     clip(p, Side::XMin, -c)
 }
@@ -55,6 +58,7 @@ pub fn clip_v_max(p: &Poly, c: i64) -> Option<Poly>
     ensures side { StaysOnSide swapped c result }
     ensures few { GainsAtMostOne p.now result }
     ensures axes { StaysInBox p.now result }
+    ensures growth { GrowsBy by_place p.now result }
 {
     clip(p, Side::VMax, c)
 }
@@ -68,6 +72,7 @@ pub fn clip_v_min(p: &Poly, c: i64) -> Option<Poly>
     ensures side { StaysOnSide turned_and_swapped (neg_ℤ c) result }
     ensures few { GainsAtMostOne p.now result }
     ensures axes { StaysInBox p.now result }
+    ensures growth { GrowsBy by_place p.now result }
 {
     clip(p, Side::VMin, -c)
 }
@@ -110,6 +115,7 @@ pub(crate) fn clip(p: &Poly, side: Side, c: i64) -> Option<Poly>
     ensures side { StaysOnSide (reflection side) c result }
     ensures few { GainsAtMostOne p.now result }
     ensures axes { StaysInBox p.now result }
+    ensures growth { GrowsBy (rounded_by side) p.now result }
 {
     let corners = p.corners();
     if are_on_side(corners, side, c) {

@@ -2,6 +2,8 @@
 //! made holds each whole point that it has to.
 #![tactic(auto)]
 
+ghost use Rattle.round_out.specs.Growth.{RoundingLaws};
+
 mod body;
 mod clips;
 mod disc;
@@ -15,6 +17,11 @@ pub use disc::{body_octagon, disc_number};
 pub use frames::{FrameNumbers, frame_numbers, frame_poly};
 pub use octagon::octagon_at;
 pub use parts::{part_between, slow_part};
+
+/// Clips and frames reach past what they are made of by less than the factor of the coordinate that is rounded.
+pub fn rounding_is_bounded()
+    ensures { RoundingLaws }
+{}
 
 #[cfg(test)]
 mod clip_tests;

@@ -1,6 +1,6 @@
 -- Items of lists at their places, where the list is changed, grows or is cut off.
-use Rattle.std.proofs.Common.{◌≡◌, ℕ, zero, suc, ◌<◌, ◌⊎◌, inl, inr, arith, refl, sym, subst, List, [], ◌∷◌, ◌++◌, length, take, drop}
-use Rattle.std.specs.Prelude.{slice_get, slice_set, Some}
+use Rattle.std.proofs.Common.{◌≡◌, ℕ, zero, suc, ◌<◌, ◌⊎◌, inl, inr, arith, refl, sym, subst, List, [], ◌∷◌, ◌++◌, map, length, take, drop}
+use Rattle.std.specs.Prelude.{slice_get, slice_set, Some, None}
 use Rattle.std.proofs.lemmas.List.{append-nil, drop_all, take_all}
 use Rattle.std.proofs.lemmas.Option.{none-some, same_Some}
 use Rattle.spot_terms.proofs.Places.{compare3}
@@ -89,3 +89,9 @@ pub got_below : {X : Type 0} (xs : List X) (k : ℕ) (x : X) → slice_get xs k 
 got_below [] k x h = cc
 got_below (y ∷ ys) zero x h = omega arith
 got_below (y ∷ ys) (suc k) x h = let b = got_below ys k x h in omega (arith, b)
+
+-- what stands at a place of a list of images
+pub image_at : {X Y : Type 0} (f : X → Y) (xs : List X) (j : ℕ) (y : Y) → slice_get (map f xs) j ≡ Some y → (x : X) × (slice_get xs j ≡ Some x) × (f x ≡ y)
+image_at f [] j y e = absurd (let g : None ≡ Some y = e in cc)
+image_at f (x ∷ xs) zero y e = (x, refl, let g : Some (f x) ≡ Some y = e in cc)
+image_at f (x ∷ xs) (suc j) y e = image_at f xs j y e

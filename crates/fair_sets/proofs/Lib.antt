@@ -1,0 +1,5 @@
+pub mod Orders
+pub mod Merged
+pub mod Fair
+pub mod InPlace
+pub mod Runs
