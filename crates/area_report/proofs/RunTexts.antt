@@ -19,6 +19,7 @@ use Rattle.area_run.specs.Running.{Stand}
 use Rattle.area_run.specs.declared.plan.Plan.{Plan}
 use Rattle.spot_claims.specs.AreaOf.{step_lines}
 use Rattle.area_report.specs.Areas.{GoesOn, IsEnd, WritesSteps}
+use Rattle.area_report.proofs.RunSteps.{is_first, is_next, goes, IsAfter, stops}
 use Rattle.area_report.proofs.StepTexts.{lines_at, IsShort, IsSoFar, HasRoom, takes_first, first_written, fault_first_step, takes_further, further_written, fault_further, takes_end, end_written}
 
 module _ {O K : Type 0} (count : O → ℕ → ℕ) (hits : O → ℕ → ℕ → Pt → Type 0) (recorded : ℕ → List Disc) (sink : Sink K) where
@@ -47,13 +48,10 @@ module _ {O K : Type 0} (count : O → ℕ → ℕ) (hits : O → ℕ → ℕ �
 
   -- ---- the first step
 
-  is_first : (first : Stand O) → first.at ≡ 0 → IsStepList (course_of first.plan) (count first.o) (hits first.o) first.at first.sets → IsFirstList (course_of first.plan) (count first.o) (hits first.o) first.sets
-  is_first first zero is = subst (λ (i : ℕ). IsStepList (course_of first.plan) (count first.o) (hits first.o) i first.sets) zero is
-
   pub takes_start : (first : Stand O) (old : K) (i : ℕ) (ds : List Disc) (bs : List BaseSet) → ds ≡ recorded i → first.at ≡ 0 → i ≡ first.at → map value_of bs ≡ first.sets → IsStepList (course_of first.plan) (count first.o) (hits first.o) first.at first.sets → length bs < 2 ^ 64 → CanTake first old
       → sink.takes old (length (text_at i ds bs))
   takes_start first old i ds bs d zero e f is few room =
-      subst (λ (x : List ℕ). sink.takes old (length x)) (sym (text_same i 0 ds bs first.sets d (e ∙ zero) f)) (takes_first (course_of first.plan) (count first.o) (hits first.o) first.steps recorded sink old first.sets (is_first first zero is) (short bs first.sets f few) room)
+      subst (λ (x : List ℕ). sink.takes old (length x)) (sym (text_same i 0 ds bs first.sets d (e ∙ zero) f)) (takes_first (course_of first.plan) (count first.o) (hits first.o) first.steps recorded sink old first.sets (is_first count hits first zero is) (short bs first.sets f few) room)
 
   pub start_written : {T E : Type 0} {x : T} (first : Stand O) (old new : K) (i : ℕ) (ds : List Disc) (bs : List BaseSet) → ds ≡ recorded i → first.at ≡ 0 → i ≡ first.at → map value_of bs ≡ first.sets → IsStepList (course_of first.plan) (count first.o) (hits first.o) first.at first.sets
       → length bs < 2 ^ 64 → HoldsOrStrikes (course_of first.plan) (count first.o) (hits first.o) first.at first.sets → WritesText {E = E} sink old new (text_at i ds bs) (Ok x) → StandsWritten first first old new
@@ -62,7 +60,7 @@ module _ {O K : Type 0} (count : O → ℕ → ℕ) (hits : O → ℕ → ℕ �
     plan = refl;
     steps = refl;
     written = subst (λ (k : ℕ). IsSoFar (course_of first.plan) (count first.o) (hits first.o) first.steps recorded sink old new k first.sets) (sym zero)
-        (first_written (course_of first.plan) (count first.o) (hits first.o) first.steps recorded sink first.sets (is_first first zero is) (short bs first.sets f few)
+        (first_written (course_of first.plan) (count first.o) (hits first.o) first.steps recorded sink first.sets (is_first count hits first zero is) (short bs first.sets f few)
         (subst (λ (k : ℕ). HoldsOrStrikes (course_of first.plan) (count first.o) (hits first.o) k first.sets) zero holds) (text_is (text_same i 0 ds bs first.sets d (e ∙ zero) f) w));
   }
 
@@ -70,17 +68,9 @@ module _ {O K : Type 0} (count : O → ℕ → ℕ) (hits : O → ℕ → ℕ �
       → IsStepList (course_of first.plan) (count first.o) (hits first.o) first.at first.sets → length bs < 2 ^ 64 → WritesText {T = U} sink old new (text_at i ds bs) (Err x) → IsErr result
       → WritesSteps recorded (course_of first.plan) (count first.o) (hits first.o) first.steps sink old new to here result
   start_fault first old new i to ds bs here result d zero e f is few w err =
-      fault_first_step (course_of first.plan) (count first.o) (hits first.o) first.steps recorded sink to first.sets here result (is_first first zero is) (short bs first.sets f few) (text_is (text_same i 0 ds bs first.sets d (e ∙ zero) f) w) err
+      fault_first_step (course_of first.plan) (count first.o) (hits first.o) first.steps recorded sink to first.sets here result (is_first count hits first zero is) (short bs first.sets f few) (text_is (text_same i 0 ds bs first.sets d (e ∙ zero) f) w) err
 
   -- ---- a further step
-
-  is_next : (first now next : Stand O) → now.o ≡ first.o → now.plan ≡ first.plan → next.at ≡ now.at + 1 → IsNextList (course_of now.plan) next.at now.sets (count now.o next.at) (hits now.o next.at) next.sets
-      → IsNextList (course_of first.plan) (suc now.at) now.sets (count first.o (suc now.at)) (hits first.o (suc now.at)) next.sets
-  is_next first now next e f g is =
-      let at : next.at ≡ suc now.at = omega (arith, g) in
-      subst (λ (o : O). IsNextList (course_of first.plan) (suc now.at) now.sets (count o (suc now.at)) (hits o (suc now.at)) next.sets) e
-      (subst (λ (p : Plan). IsNextList (course_of p) (suc now.at) now.sets (count now.o (suc now.at)) (hits now.o (suc now.at)) next.sets) f
-      (subst (λ (i : ℕ). IsNextList (course_of now.plan) i now.sets (count now.o i) (hits now.o i) next.sets) at is))
 
   is_held : (first now next : Stand O) → next.o ≡ first.o → next.plan ≡ first.plan → next.at ≡ now.at + 1 → HoldsOrStrikes (course_of next.plan) (count next.o) (hits next.o) next.at next.sets
       → HoldsOrStrikes (course_of first.plan) (count first.o) (hits first.o) (suc now.at) next.sets
@@ -90,24 +80,13 @@ module _ {O K : Type 0} (count : O → ℕ → ℕ) (hits : O → ℕ → ℕ �
       (subst (λ (p : Plan). HoldsOrStrikes (course_of p) (count next.o) (hits next.o) (suc now.at) next.sets) f
       (subst (λ (i : ℕ). HoldsOrStrikes (course_of next.plan) (count next.o) (hits next.o) i next.sets) at h))
 
-  goes : (first now : Stand O) → now.steps ≡ first.steps → GoesOn now.at now.steps now.sets → GoesOn now.at first.steps now.sets
-  goes first now e h = subst (λ (n : ℕ). GoesOn now.at n now.sets) e h
-
-  -- the run has gone on by a step
-  pub record IsAfter (now next : Stand O) : Type 0 where
-    pub pieces : next.o ≡ now.o
-    pub plan : next.plan ≡ now.plan
-    pub steps : next.steps ≡ now.steps
-    pub at : next.at ≡ now.at + 1
-    pub list : IsNextList (course_of now.plan) next.at now.sets (count now.o next.at) (hits now.o next.at) next.sets
-
-  pub takes_step : (first now next : Stand O) (old b : K) (i : ℕ) (ds : List Disc) (bs : List BaseSet) → ds ≡ recorded i → StandsWritten first now old b → GoesOn now.at now.steps now.sets → IsAfter now next → i ≡ next.at → map value_of bs ≡ next.sets → length bs < 2 ^ 64 → CanTake first old
+  pub takes_step : (first now next : Stand O) (old b : K) (i : ℕ) (ds : List Disc) (bs : List BaseSet) → ds ≡ recorded i → StandsWritten first now old b → GoesOn now.at now.steps now.sets → IsAfter count hits now next → i ≡ next.at → map value_of bs ≡ next.sets → length bs < 2 ^ 64 → CanTake first old
       → sink.takes b (length (text_at i ds bs))
   takes_step first now next old b i ds bs d v h after e f few room =
       subst (λ (x : List ℕ). sink.takes b (length x)) (sym (text_same i (suc now.at) ds bs next.sets d (e ∙ after.at ∙ omega arith) f))
-      (takes_further (course_of first.plan) (count first.o) (hits first.o) first.steps recorded sink old b now.at now.sets next.sets v.written (goes first now v.steps h) (is_next first now next v.pieces v.plan after.at after.list) (short bs next.sets f few) room)
+      (takes_further (course_of first.plan) (count first.o) (hits first.o) first.steps recorded sink old b now.at now.sets next.sets v.written (goes count hits first now v.steps h) (is_next count hits first now next v.pieces v.plan after.at after.list) (short bs next.sets f few) room)
 
-  pub step_written : {T E : Type 0} {x : T} (first now next : Stand O) (old b new : K) (i : ℕ) (ds : List Disc) (bs : List BaseSet) → ds ≡ recorded i → StandsWritten first now old b → GoesOn now.at now.steps now.sets → IsAfter now next → i ≡ next.at → map value_of bs ≡ next.sets
+  pub step_written : {T E : Type 0} {x : T} (first now next : Stand O) (old b new : K) (i : ℕ) (ds : List Disc) (bs : List BaseSet) → ds ≡ recorded i → StandsWritten first now old b → GoesOn now.at now.steps now.sets → IsAfter count hits now next → i ≡ next.at → map value_of bs ≡ next.sets
       → length bs < 2 ^ 64 → HoldsOrStrikes (course_of next.plan) (count next.o) (hits next.o) next.at next.sets → WritesText {E = E} sink b new (text_at i ds bs) (Ok x) → StandsWritten first next old new
   step_written first now next old b new i ds bs d v h after e f few holds w =
       let pieces : next.o ≡ first.o = after.pieces ∙ v.pieces in
@@ -117,25 +96,22 @@ module _ {O K : Type 0} (count : O → ℕ → ℕ) (hits : O → ℕ → ℕ �
         plan = plan;
         steps = after.steps ∙ v.steps;
         written = subst (λ (k : ℕ). IsSoFar (course_of first.plan) (count first.o) (hits first.o) first.steps recorded sink old new k next.sets) at
-            (further_written (course_of first.plan) (count first.o) (hits first.o) first.steps recorded sink old b new now.at now.sets next.sets v.written (goes first now v.steps h) (is_next first now next v.pieces v.plan after.at after.list)
+            (further_written (course_of first.plan) (count first.o) (hits first.o) first.steps recorded sink old b new now.at now.sets next.sets v.written (goes count hits first now v.steps h) (is_next count hits first now next v.pieces v.plan after.at after.list)
             (short bs next.sets f few) (is_held first now next pieces plan after.at holds) (text_is (text_same i (suc now.at) ds bs next.sets d (e ∙ sym at) f) w));
       }
 
-  pub step_fault : {T U E : Type 0} {x : E} (first now next : Stand O) (old b new : K) (i to : ℕ) (ds : List Disc) (bs : List BaseSet) (here : List SetValue) (result : Result T E) → ds ≡ recorded i → StandsWritten first now old b → GoesOn now.at now.steps now.sets → IsAfter now next
+  pub step_fault : {T U E : Type 0} {x : E} (first now next : Stand O) (old b new : K) (i to : ℕ) (ds : List Disc) (bs : List BaseSet) (here : List SetValue) (result : Result T E) → ds ≡ recorded i → StandsWritten first now old b → GoesOn now.at now.steps now.sets → IsAfter count hits now next
       → i ≡ next.at → map value_of bs ≡ next.sets → length bs < 2 ^ 64 → WritesText {T = U} sink b new (text_at i ds bs) (Err x) → IsErr result
       → WritesSteps recorded (course_of first.plan) (count first.o) (hits first.o) first.steps sink old new to here result
   step_fault first now next old b new i to ds bs here result d v h after e f few w err =
-      fault_further (course_of first.plan) (count first.o) (hits first.o) first.steps recorded sink old b new now.at to now.sets next.sets here result v.written (goes first now v.steps h) (is_next first now next v.pieces v.plan after.at after.list)
+      fault_further (course_of first.plan) (count first.o) (hits first.o) first.steps recorded sink old b new now.at to now.sets next.sets here result v.written (goes count hits first now v.steps h) (is_next count hits first now next v.pieces v.plan after.at after.list)
       (short bs next.sets f few) (text_is (text_same i (suc now.at) ds bs next.sets d (e ∙ after.at ∙ omega arith) f) w) err
 
   -- ---- the end
 
-  stops : (first now : Stand O) → now.steps ≡ first.steps → (GoesOn now.at now.steps now.sets → ⊥) → GoesOn now.at first.steps now.sets → ⊥
-  stops first now e none h = none (subst (λ (n : ℕ). GoesOn now.at n now.sets) (sym e) h)
-
   pub takes_last : (first now : Stand O) (old b : K) (end : End) → StandsWritten first now old b → (GoesOn now.at now.steps now.sets → ⊥) → IsEnd now.at now.sets end → CanTake first old → sink.takes b (length (line_text (last_line end)))
-  takes_last first now old b end v none is room = takes_end (course_of first.plan) (count first.o) (hits first.o) first.steps recorded sink old b now.at now.sets end v.written (stops first now v.steps none) is room
+  takes_last first now old b end v none is room = takes_end (course_of first.plan) (count first.o) (hits first.o) first.steps recorded sink old b now.at now.sets end v.written (stops count hits first now v.steps none) is room
 
   pub last_written : {T E : Type 0} (first now : Stand O) (old b new : K) (end : End) (result : Result T E) → StandsWritten first now old b → (GoesOn now.at now.steps now.sets → ⊥) → IsEnd now.at now.sets end
       → WritesText sink b new (line_text (last_line end)) result → WritesSteps recorded (course_of first.plan) (count first.o) (hits first.o) first.steps sink old new now.at now.sets result
-  last_written first now old b new end result v none is w = end_written (course_of first.plan) (count first.o) (hits first.o) first.steps recorded sink old b new now.at now.sets end result v.written (stops first now v.steps none) is w
+  last_written first now old b new end result v none is w = end_written (course_of first.plan) (count first.o) (hits first.o) first.steps recorded sink old b new now.at now.sets end result v.written (stops count hits first now v.steps none) is w

@@ -80,6 +80,12 @@ room_is sink a i sets h = subst (λ (x : List ℕ). sink.takes a (length x)) (sy
 abbrev pub IsShort : List SetValue → Type 0
 IsShort sets = length sets < 2 ^ 64
 
+-- one list more
+pub longer : (at : ℕ) (earlier : List (List SetValue)) (sets : List SetValue) → at ≡ length earlier → suc at ≡ length (earlier ++ sets ∷ [])
+longer at [] sets e = ap suc e
+longer zero (s ∷ earlier) sets e = cc
+longer (suc at) (s ∷ earlier) sets e = ap suc (longer at earlier sets (omega (arith, e)))
+
 more_short : (earlier : List (List SetValue)) (sets next : List SetValue) → AreShort (earlier ++ sets ∷ []) → IsShort next → AreShort ((earlier ++ sets ∷ []) ++ next ∷ [])
 more_short earlier sets next all short = all_append IsShort (earlier ++ sets ∷ []) (next ∷ []) all (short, tt)
 
@@ -182,11 +188,6 @@ module _ (course : Course) (count : ℕ → ℕ) (Hits : ℕ → ℕ → Pt → 
     further : (old now : K) (at : ℕ) (sets next : List SetValue) → (v : IsSoFar old now at sets) → GoesOn at n sets → IsNextList course (suc at) sets (count (suc at)) (Hits (suc at)) next → AreListsSoFar course count Hits n ((v.earlier ++ sets ∷ []) ++ next ∷ [])
     further old now at [] next v goes is = absurd goes
     further old now at (b ∷ bs) next v goes is = so_far_more at v.earlier b bs next v.long v.are goes is
-
-    longer : (at : ℕ) (earlier : List (List SetValue)) (sets : List SetValue) → at ≡ length earlier → suc at ≡ length (earlier ++ sets ∷ [])
-    longer at [] sets e = ap suc e
-    longer zero (s ∷ earlier) sets e = cc
-    longer (suc at) (s ∷ earlier) sets e = ap suc (longer at earlier sets (omega (arith, e)))
 
     pub takes_further : (old now : K) (at : ℕ) (sets next : List SetValue) → IsSoFar old now at sets → GoesOn at n sets → IsNextList course (suc at) sets (count (suc at)) (Hits (suc at)) next → IsShort next → HasRoom old → sink.takes now (length (report_text (lines_at recorded (suc at) next)))
     takes_further old now at sets next v goes is short room =

@@ -1,5 +1,5 @@
 -- What is written of the steps of a run.
-use Rattle.std.specs.Prelude.{◌≡◌, ◌⊎◌, ℕ, ◌<◌, ◌^◌, List, [], ◌∷◌, ◌++◌, map, length, Option, Some, slice_get, Result, OnOk, OnErr}
+use Rattle.std.specs.Prelude.{◌≡◌, ◌⊎◌, ℕ, ◌+◌, ◌<◌, ◌^◌, List, [], ◌∷◌, ◌++◌, map, length, Option, Some, slice_get, Result, OnOk, OnErr}
 use Rattle.std.specs.Io.KnownBytes.{Appends}
 use Rattle.std.specs.List.{AllByRecursion}
 use Rattle.spot_terms.specs.Avoidance.{HoldsOrStrikes}
@@ -49,6 +49,15 @@ module _ (course : Course) (count : ℕ → ℕ) (Hits : ℕ → ℕ → Pt → 
   -- each list holds each motion that goes on to its step, or the motion was at a piece by then
   abbrev pub AllHold : List (List SetValue) → Type 0
   AllHold lists = (i : ℕ) (sets : List SetValue) → slice_get lists i ≡ Some sets → HoldsOrStrikes course count Hits i sets
+
+  -- a run stands at the last of the steps that are made
+  pub record StandsAtLast (at : ℕ) (sets : List SetValue) : Type 0 where
+    pub lists : List (List SetValue)
+    pub end : End
+    pub lists_are : AreStepLists course count Hits n lists end
+    pub last_is : at + 1 ≡ length lists
+    pub sets_are : slice_get lists at ≡ Some sets
+    pub end_is : IsEnd at sets end
 
 -- over the discs that are recorded for each step
 module _ (recorded : ℕ → List Disc) (course : Course) (count : ℕ → ℕ) (Hits : ℕ → ℕ → Pt → Type 0) (n : ℕ) where

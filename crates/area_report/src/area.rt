@@ -14,7 +14,7 @@ use base_sets::BaseSet;
 use carve::Occupied;
 use spot_io::{Sink, SinkFault};
 use spot_terms::{Disc, End};
-use text_report::{write_count, write_disc, write_end, write_set};
+use text_report::{SetLines, write_count, write_disc, write_end};
 
 // The lines of the discs of a step.
 fn write_discs<K: Sink>(sink: &mut K, step: u32, discs: &[Disc]) -> Result<(), SinkFault>
@@ -32,8 +32,9 @@ fn write_sets<K: Sink>(sink: &mut K, step: u32, sets: &[BaseSet]) -> Result<(), 
     requires { K.takes sink.old (length (report_text (step_lines step [] (map value_of sets.now)))) }
     ensures { WritesText K.Sink sink.old sink.new (report_text (step_lines step [] (map value_of sets.now))) result }
 {
+    let mut lines = SetLines::new();
     for b in sets {
-        write_set(sink, step, b)?;
+        lines.write(sink, step, b)?;
     }
     write_count(sink, step, sets.len() as u64)
 }
@@ -52,8 +53,8 @@ fn write_step<K: Sink>(
     write_sets(sink, step, sets)
 }
 
-// Whether a step is to be made: the run has sets, and steps are left.
-fn goes_on<O: Occupied>(run: &AreaRun<'_, O>) -> bool
+/// Whether a step is to be made: the run has sets, and steps are left.
+pub(crate) fn goes_on<O: Occupied>(run: &AreaRun<'_, O>) -> bool
     ensures { IsTrue result ↔ GoesOn run.now.at run.now.steps run.now.sets }
 {
     match run.verdict() {
@@ -63,7 +64,7 @@ fn goes_on<O: Occupied>(run: &AreaRun<'_, O>) -> bool
 }
 
 // How a run ends where no further step is made.
-fn end_of<O: Occupied>(run: &AreaRun<'_, O>) -> End
+pub(crate) fn end_of<O: Occupied>(run: &AreaRun<'_, O>) -> End
     ensures { IsEnd run.now.at run.now.sets result }
 {
     match run.verdict() {

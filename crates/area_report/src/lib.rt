@@ -3,12 +3,16 @@
 #![tactic(auto)]
 
 mod area;
+mod last;
 mod problem;
 mod recording;
+mod total;
 
 pub use area::write_area;
+pub use last::go_to_last;
 pub use problem::ego_of;
 pub use recording::{Recording, Unrecorded};
+pub use total::{Total, total_of};
 
 #[cfg(test)]
 mod tests;

@@ -1,15 +1,15 @@
 -- All texts of a made scenario stand in strings as they are, and are short.
-use Rattle.std.proofs.Common.{◌≡◌, ◌∙◌, ℕ, zero, suc, ◌+◌, ◌*◌, ◌-◌, ◌%◌, ◌<◌, ◌≤◌, ◌==◌, ◌&&◌, not, Bool, true, false, cond, nat_lt, nat_le, List, [], ◌∷◌, ◌++◌, length, map, refl, sym, ap, subst, arith, codes, decimal, length-append}
-use Rattle.std.specs.Prelude.{⊤}
+use Rattle.std.proofs.Common.{◌≡◌, ◌∙◌, ℕ, ◌+◌, ◌*◌, ◌-◌, ◌%◌, ◌<◌, ◌≤◌, ◌==◌, ◌&&◌, not, Bool, true, false, cond, nat_lt, nat_le, List, [], ◌∷◌, ◌++◌, length, map, refl, ap, arith, codes, decimal, length-append}
 use Rattle.std.specs.List.{AllByRecursion, list_all}
 use Rattle.std.specs.Fmt.{digits}
 use Rattle.std.proofs.Math.Nat.{mod-lt}
+use Rattle.std.proofs.lemmas.Bool.{and_parts}
 use Rattle.std.proofs.lemmas.Bool.Decides.{nat_tests}
 use Rattle.std.proofs.lemmas.List.{length-map}
 use Rattle.json.specs.Print.{escape, escape_byte}
 use Rattle.json.proofs.Printed.Strings.{escape_byte_plain}
-use Rattle.spot_terms.specs.Lists.{Includes, numbers_from}
-use Rattle.spot_terms.specs.Samples.{Made, leaf, branch, Mades, nothing, further, holding, draw, tenths, hundredths, bound_point, bound, neighbour, left_of, right_of, lanelet, car, mover, problem, items, roads, point, exact, position, start, rectangle, body, quoted, attribute_text, attributes_text, made_text, behind_text, sample_text}
+use Rattle.spot_terms.specs.Lists.{numbers_from}
+use Rattle.spot_terms.specs.Samples.{Made, leaf, branch, Mades, nothing, further, holding, draw, tenths, hundredths, bound_point, bound, neighbour, left_of, right_of, lanelet, car, mover, problem, roads, point, exact, position, start, rectangle, body, quoted, attribute_text, attributes_text, made_text, behind_text, sample_text}
 use Rattle.sample_roads.proofs.Tables.{bounds, from_table, included}
 use Rattle.spot_terms.proofs.ListLemmas.{numbers_from_length}
 use Rattle.spot_terms.proofs.Members.{all_in_map}
@@ -38,21 +38,17 @@ clean_byte x h = escape_byte_plain x (λ e. not_mark x h e) (λ e. not_slash x h
     not_slash : (x : ℕ) → is_plain x ≡ true → x ≡ 92 → ⊥
     not_slash x h e = grind (arith, nat_tests)
 
-both : (a b : Bool) → (a && b) ≡ true → (a ≡ true) × (b ≡ true)
-both true b h = (refl, h)
-both false b h = cc
-
 plain_text : (text : List ℕ) → list_all is_plain text ≡ true → IsClean text
 plain_text [] h = refl
 plain_text (x ∷ xs) h =
-    let r = both (is_plain x) (list_all is_plain xs) h in
+    let r = and_parts (is_plain x) (list_all is_plain xs) h in
     ap (λ (t : List ℕ). t ++ escape xs) (clean_byte x r.0) ∙ ap (λ (t : List ℕ). x ∷ t) (plain_text xs r.1)
 
 pub fit_clean : (most : ℕ) (text : List ℕ) → is_fit most text ≡ true → IsClean text
-fit_clean most text h = plain_text text (both (nat_le (length text) most) (list_all is_plain text) h).1
+fit_clean most text h = plain_text text (and_parts (nat_le (length text) most) (list_all is_plain text) h).1
 
 pub fit_short : (most : ℕ) (text : List ℕ) → is_fit most text ≡ true → length text ≤ most
-fit_short most text h = short (both (nat_le (length text) most) (list_all is_plain text) h).0
+fit_short most text h = short (and_parts (nat_le (length text) most) (list_all is_plain text) h).0
   where
     short : nat_le (length text) most ≡ true → length text ≤ most
     short e = grind (arith, nat_tests)

@@ -1,5 +1,5 @@
 -- The states of the generator.
-use Rattle.std.proofs.Common.{◌≡◌, ◌∙◌, ℕ, suc, ◌+◌, ap, refl, arith}
+use Rattle.std.proofs.Common.{◌≡◌, ◌∙◌, ℕ, suc, ◌+◌, ap, arith}
 use Rattle.spot_terms.specs.Samples.{state_after, next_state}
 
 pub after_one : (seed k : ℕ) → state_after seed (k + 1) ≡ next_state (state_after seed k)

@@ -1,14 +1,14 @@
 -- What the paths of the profile find in the sample.
-use Rattle.std.proofs.Common.{◌≡◌, ◌∙◌, ℕ, zero, suc, ◌+◌, ◌*◌, ◌-◌, ◌%◌, ◌<◌, ◌≤◌, Bool, true, false, cond, List, [], ◌∷◌, ◌++◌, map, filter, refl, sym, ap, subst, arith, codes, decimal, append-nil}
+use Rattle.std.proofs.Common.{◌≡◌, ◌∙◌, ℕ, Bool, true, false, List, [], ◌∷◌, ◌++◌, map, filter, refl, sym, ap, subst, codes, append-nil}
 use Rattle.std.specs.List.{AllByRecursion}
 use Rattle.std.proofs.lemmas.List.Elements.{filter-append}
 use Rattle.spot_terms.specs.Lists.{Includes, numbers_from}
 use Rattle.spot_terms.proofs.Members.{all_in_map}
-use Rattle.spot_claims.specs.Paths.{each_child, first_child, Path, lanelets, statics, dynamics, problems}
+use Rattle.spot_claims.specs.Paths.{Path, lanelets, statics, dynamics, problems}
 use Rattle.spot_claims.specs.Profile.{Check}
-use Rattle.spot_terms.specs.Samples.{Made, leaf, branch, Mades, nothing, further, holding}
+use Rattle.spot_terms.specs.Samples.{Made, holding}
 use Rattle.spot_terms.specs.Samples.{lanelet, mover, problem, items, roads}
-use Rattle.sample_roads.proofs.TreeLayer.{list_of, label, kids, has_label, take_made, walk_made}
+use Rattle.sample_roads.proofs.TreeLayer.{list_of, kids, has_label, walk_made}
 use Rattle.sample_roads.proofs.Passing.{AllPass, Passes, from_each}
 
 pub list_of_holding : (ms : List Made) → list_of (holding ms) ≡ ms

@@ -1,19 +1,18 @@
 -- The lines of the profile that look at children and texts, at the sample.
-use Rattle.std.proofs.Common.{◌≡◌, ◌∙◌, ℕ, zero, suc, ◌+◌, ◌*◌, ◌-◌, ◌%◌, ◌<◌, ◌≤◌, Bool, true, false, List, [], ◌∷◌, ◌++◌, map, refl, sym, ap, subst, arith, codes, decimal, lit<}
+use Rattle.std.proofs.Common.{◌≡◌, ℕ, ◌+◌, ◌*◌, ◌-◌, ◌%◌, ◌<◌, ◌≤◌, List, [], ◌∷◌, ◌++◌, map, refl, arith, codes, decimal, lit<}
 use Rattle.std.specs.List.{AllByRecursion}
 use Rattle.std.proofs.Math.Nat.{mod-lt}
-use Rattle.spot_terms.specs.Lists.{Includes, numbers_from}
+use Rattle.spot_terms.specs.Lists.{numbers_from}
 use Rattle.spot_terms.specs.Decimal.{fraction_of}
-use Rattle.spot_terms.proofs.Members.{all_in_map}
 use Rattle.spot_claims.specs.Paths.{each_child, first_child, Path, lanelets, statics, dynamics, problems}
 use Rattle.spot_claims.specs.Profile as profile
 use Rattle.spot_claims.specs.Profile.{Check, Number, is_number, coordinate, x_and_y, left_point, right_point}
-use Rattle.spot_terms.specs.Samples.{Made, leaf, branch}
+use Rattle.spot_terms.specs.Samples.{Made, leaf}
 use Rattle.spot_terms.specs.Samples.{draw, tenths, hundredths, point, lanelet, mover, problem, roads}
 use Rattle.sample_roads.proofs.TreeLayer.{said, walk_made}
 use Rattle.sample_roads.proofs.Numbers.{Fits, fits_coordinate, fits_size, fits_angle, fits_speed, fits_step}
 use Rattle.sample_roads.proofs.Tables.{bounds, metres_read, speed_reads, side_reads, middle_reads}
-use Rattle.sample_roads.proofs.Passing.{AllPass, LinePasses, Passes, walked_on}
+use Rattle.sample_roads.proofs.Passing.{AllPass, LinePasses, Passes}
 use Rattle.sample_roads.proofs.Found.{from_found, found_lanelets, found_dynamics, found_statics, found_problems}
 
 -- ---- numbers

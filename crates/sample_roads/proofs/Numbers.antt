@@ -1,11 +1,12 @@
 -- Texts that are read exactly, and the checks of a number that they pass.
-use Rattle.std.proofs.Common.{◌≡◌, ◌∙◌, ◌⊎◌, inl, inr, ℕ, zero, suc, ◌+◌, ◌*◌, ◌^◌, ◌<◌, ◌≤◌, ℤ, pos, negsuc, neg_ℤ, ◌-ℤ◌, ◌*ℤ◌, ◌<ℤ◌, ◌≤ℤ◌, Bool, true, false, not, ◌&&◌, ◌||◌, ◌==◌, nat_lt, is_none, List, length, Option, Some, None, refl, sym, ap, subst, arith, IsTrue, codes}
+use Rattle.std.proofs.Common.{◌≡◌, ◌⊎◌, inl, inr, ℕ, zero, suc, ◌+◌, ◌*◌, ◌^◌, ◌<◌, ◌≤◌, ℤ, pos, negsuc, ◌-ℤ◌, ◌*ℤ◌, ◌<ℤ◌, ◌≤ℤ◌, Bool, true, false, not, ◌&&◌, ◌==◌, List, Option, Some, None, refl, sym, subst, arith}
 use Rattle.std.specs.Prelude.{nat_abs}
 use Rattle.std.proofs.lemmas.Int.{ints}
+use Rattle.std.proofs.lemmas.Bool.{and_parts}
 use Rattle.std.proofs.lemmas.Bool.Decides.{nat_tests}
-use Rattle.spot_terms.specs.Decimal.{Fraction, fraction_of, bottom, IsReading, Reads}
+use Rattle.spot_terms.specs.Decimal.{Fraction, fraction_of, IsReading, Reads}
 use Rattle.spot_terms.proofs.Readings.{ten_pos, most_pos, most_other}
-use Rattle.spot_claims.specs.Profile.{Number, is_bad_number, IsTooLarge, IsOutside, coordinate, shape_coordinate, size, angle, speed, step_number}
+use Rattle.spot_claims.specs.Profile.{Number, is_bad_number, IsTooLarge, IsOutside, coordinate, size, angle, speed, step_number}
 use Rattle.spot_decimal.proofs.Signs.{reads_once}
 
 -- ---- a fraction that is a whole number of units
@@ -58,16 +59,12 @@ from_some : (places k : ℕ) (text : List ℕ) (o : Option Fraction) → fractio
 from_some places k text None e h = cc
 from_some places k text (Some f) e h = from_top places k text f.top f.tens e h
 
-second : (a b : Bool) → (a && b) ≡ true → b ≡ true
-second true b e = e
-second false b e = cc
-
 not_first : (a b : Bool) → (not a && b) ≡ true → a ≡ false
 not_first true b e = cc
 not_first false b e = refl
 
 pub exact_reads : (places k : ℕ) (text : List ℕ) → reads_as places text k ≡ true → Reads places text (pos k)
-exact_reads places k text h = from_some places k text (fraction_of text) refl (second (not (is_bad_number text)) (is_exact places k (fraction_of text)) h)
+exact_reads places k text h = from_some places k text (fraction_of text) refl ((and_parts (not (is_bad_number text)) (is_exact places k (fraction_of text)) h).1)
 
 pub exact_good : (places k : ℕ) (text : List ℕ) → reads_as places text k ≡ true → is_bad_number text ≡ false
 exact_good places k text h = not_first (is_bad_number text) (is_exact places k (fraction_of text)) h

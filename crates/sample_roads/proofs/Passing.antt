@@ -1,14 +1,13 @@
 -- Checks that what is made passes, at the elements where it stands.
-use Rattle.std.proofs.Common.{◌≡◌, ◌∙◌, ◌⊎◌, inl, inr, ℕ, zero, suc, ◌+◌, ◌<◌, ◌≤◌, Bool, true, false, not, ◌&&◌, ◌||◌, ◌==◌, nat_lt, is_none, List, [], ◌∷◌, ◌++◌, length, Option, Some, None, refl, sym, ap, subst, arith, IsTrue, codes, append_assoc}
-use Rattle.std.specs.Prelude.{⊤}
-use Rattle.std.specs.List.{AllByRecursion, filter, filter_map, flat_map, find, list_any, list_all}
+use Rattle.std.proofs.Common.{◌≡◌, ◌∙◌, ℕ, zero, suc, Bool, false, is_none, List, [], ◌∷◌, ◌++◌, Option, Some, None, refl, sym, ap, subst}
+use Rattle.std.specs.List.{AllByRecursion, filter, find, list_any, list_all}
+use Rattle.std.proofs.lemmas.Bool.{both_ways}
 use Rattle.spot_terms.specs.Lists.{Includes, At, Pairwise}
-use Rattle.spot_terms.specs.declared.status.Code.{Code}
 use Rattle.spot_terms.proofs.ListLemmas.{all_append, all_included, partner}
-use Rattle.spot_claims.specs.Tree.{Element, first_named, text_at, tree_of}
+use Rattle.spot_claims.specs.Tree.{Element, first_named, text_at}
 use Rattle.spot_claims.specs.Paths.{Step, each_child, first_child, Path, walk, at_path}
-use Rattle.spot_claims.specs.Profile.{Check, bad_number, out_of_range, lacks_a_child, lacks_each_child, wrong_root, wrong_version, no_step_size, bad_step_size, large_step_size, uneven_step_size, bad_id, duplicate_id, too_many, bound_count, Line, FailsAt, FailsBy, lacks, lacks_one, lacks_all, is_bad_number, profile, IsAccepted}
-use Rattle.spot_terms.specs.Samples.{Made, leaf, branch, Mades}
+use Rattle.spot_claims.specs.Profile.{Check, bad_number, out_of_range, lacks_a_child, lacks_each_child, wrong_root, wrong_version, no_step_size, bad_step_size, large_step_size, uneven_step_size, bad_id, duplicate_id, too_many, bound_count, Line, FailsAt, lacks, lacks_one, lacks_all, is_bad_number, profile, IsAccepted}
+use Rattle.spot_terms.specs.Samples.{Made}
 use Rattle.sample_roads.proofs.TreeLayer.{Stands, Alike, has_label, kids, said, said_is, first_stands, take_made, walk_made, walk_stands}
 use Rattle.sample_roads.proofs.Numbers.{Fits, in_range}
 
@@ -51,10 +50,6 @@ all_same : {X : Type 0} (p q : X → Bool) (xs : List X) → ((x : X) → p x �
 all_same p q [] h = refl
 all_same p q (x ∷ xs) h = let a = h x in let b = all_same p q xs h in rw a (rw b refl)
 
-not_both : (b : Bool) → b ≡ false → IsTrue b → ⊥
-not_both true e t = cc
-not_both false e t = cc
-
 pub no_failure : (tree : List Element) (e : ℕ) (m : Made) → Stands tree e m → (check : Check) → Passes m check → FailsAt tree e check → ⊥
 no_failure tree e m h wrong_root p f = absurd p
 no_failure tree e m h wrong_version p f = absurd p
@@ -66,9 +61,9 @@ no_failure tree e m h bad_id p f = absurd p
 no_failure tree e m h (duplicate_id among) p f = absurd p
 no_failure tree e m h (too_many among n) p f = absurd p
 no_failure tree e m h bound_count p f = absurd p
-no_failure tree e m h (lacks_a_child names) p f = not_both (lacks_one tree e names) (any_same (lacks tree e) (lacks_made m) names (lacks_is tree e m h) ∙ p) f
-no_failure tree e m h (lacks_each_child code names) p f = not_both (lacks_all tree e names) (all_same (lacks tree e) (lacks_made m) names (lacks_is tree e m h) ∙ p) f
-no_failure tree e m h bad_number p f = not_both (is_bad_number (text_at tree e)) (ap is_bad_number (said_is tree e m h) ∙ p) f
+no_failure tree e m h (lacks_a_child names) p f = both_ways (lacks_one tree e names) (any_same (lacks tree e) (lacks_made m) names (lacks_is tree e m h) ∙ p) f
+no_failure tree e m h (lacks_each_child code names) p f = both_ways (lacks_all tree e names) (all_same (lacks tree e) (lacks_made m) names (lacks_is tree e m h) ∙ p) f
+no_failure tree e m h bad_number p f = both_ways (is_bad_number (text_at tree e)) (ap is_bad_number (said_is tree e m h) ∙ p) f
 no_failure tree e m h (out_of_range n) p f =
     let P : List ℕ → Type 0 = λ t. Fits n t in
     in_range n (text_at tree e) (subst P (sym (said_is tree e m h)) p) f

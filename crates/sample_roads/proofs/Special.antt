@@ -1,7 +1,8 @@
 -- The lines of the root, of lanelets, of obstacles and of problems, at the sample; and the whole: no check fails.
-use Rattle.std.proofs.Common.{◌≡◌, ◌∙◌, ◌⊎◌, inl, inr, ℕ, zero, suc, ◌+◌, ◌*◌, ◌-◌, ◌%◌, ◌<◌, ◌≤◌, ◌==◌, ◌&&◌, ◌||◌, not, nat_lt, is_none, ℤ, pos, Bool, true, false, cond, IsTrue, List, [], ◌∷◌, ◌++◌, length, map, Option, Some, None, option_map, option_and_then, unwrap_or, refl, sym, ap, subst, arith, codes, decimal, append-nil}
-use Rattle.std.specs.List.{AllByRecursion, flat_map, count_by, list_any}
+use Rattle.std.proofs.Common.{◌≡◌, ◌∙◌, inl, inr, ℕ, zero, suc, ◌+◌, ◌<◌, ◌≤◌, ◌==◌, ◌&&◌, ◌||◌, not, nat_lt, is_none, pos, Bool, true, false, List, [], ◌∷◌, ◌++◌, length, map, Option, Some, None, option_map, option_and_then, unwrap_or, refl, sym, ap, subst, arith, codes, append-nil}
+use Rattle.std.specs.List.{AllByRecursion, count_by}
 use Rattle.std.specs.Str.{bytes_eq}
+use Rattle.std.proofs.lemmas.Bool.{and_parts, both_ways}
 use Rattle.std.proofs.lemmas.Bool.Decides.{nat_tests}
 use Rattle.std.proofs.lemmas.List.{length-map}
 use Rattle.spot_terms.specs.Lists.{Includes, AreDistinct, Pairwise, numbers_from}
@@ -9,16 +10,16 @@ use Rattle.spot_terms.specs.Decimal.{fraction_of}
 use Rattle.spot_terms.proofs.ListLemmas.{partner, includes_map}
 use Rattle.spot_terms.proofs.Members.{in_map}
 use Rattle.std.proofs.lemmas.List.Sums.{count_by-le-length}
-use Rattle.spot_claims.specs.Tree.{Element, is_called, attribute_at, value_at, tree_of}
-use Rattle.spot_claims.specs.Paths.{each_child, first_child, Path, walk, at_path, lanelets, statics, dynamics, problems, id_of, id_at}
+use Rattle.spot_claims.specs.Tree.{Element, is_called, attribute_at, value_at}
+use Rattle.spot_claims.specs.Paths.{Path, walk, at_path, lanelets, statics, dynamics, problems, id_of, id_at}
 use Rattle.spot_claims.specs.Profile as profile
 use Rattle.spot_claims.specs.Profile.{FailsAt, at_paths, is_second, same_id, is_bad_number, step_size_text, point_count, coordinate, obstacles, IsTooLarge, IsUneven, IsAccepted, bad_id, duplicate_id, too_many, bound_count, lacks_a_child, wrong_root, wrong_version, no_step_size, bad_step_size, large_step_size, uneven_step_size, left_point, right_point}
 use Rattle.scenario.proofs.Members.{none_in}
 use Rattle.spot_terms.proofs.ListLemmas.{pairwise_length}
 use Rattle.spot_decimal.proofs.Signs.{reads_once}
-use Rattle.spot_terms.specs.Samples.{Made, leaf, branch}
+use Rattle.spot_terms.specs.Samples.{Made}
 use Rattle.spot_terms.specs.Samples.{lanelet, mover, problem, roads}
-use Rattle.sample_roads.proofs.TreeLayer.{Stands, marks, has_label, called_is, mark_is, walk_made, walk_stands}
+use Rattle.sample_roads.proofs.TreeLayer.{Stands, marks, called_is, mark_is, walk_made, walk_stands}
 use Rattle.sample_roads.proofs.Numbers.{Fits, fits_coordinate, in_range, exact_reads}
 use Rattle.sample_roads.proofs.Tables.{bounds, lane_id, mover_id}
 use Rattle.sample_roads.proofs.Passing.{Safe, no_failure, accepted, line_safe}
@@ -75,21 +76,13 @@ false_of : (b : Bool) → (b ≡ true → ⊥) → b ≡ false
 false_of true h = absurd (h refl)
 false_of false h = refl
 
-both_of : (a b : Bool) → (a && b) ≡ true → (a ≡ true) × (b ≡ true)
-both_of true b h = (refl, h)
-both_of false b h = cc
-
 not_below : (d e : ℕ) → d ≡ e → nat_lt d e ≡ true → ⊥
 not_below d e s h = grind (arith, nat_tests)
 
 pub no_second : (tree : List Element) (es : List ℕ) (ms : List Made) (e : ℕ) → Pairwise (Stands tree) es ms → AreDistinct (map made_id ms) → Includes es e → is_second tree es e ≡ false
 no_second tree es ms e p a j = none_in (λ d. nat_lt d e && same_id (id_at tree d) (id_at tree e)) es (λ d i. false_of (nat_lt d e && same_id (id_at tree d) (id_at tree e)) (λ t.
-    let r = both_of (nat_lt d e) (same_id (id_at tree d) (id_at tree e)) t in
+    let r = and_parts (nat_lt d e) (same_id (id_at tree d) (id_at tree e)) t in
     not_below d e (one_by_id tree es ms d e p a i j (same_id_is (id_at tree d) (id_at tree e) r.1)) r.0))
-
-not_both : (b : Bool) → b ≡ false → IsTrue b → ⊥
-not_both true e t = cc
-not_both false e t = cc
 
 -- ---- along paths
 
@@ -147,13 +140,13 @@ module _ (seed lanes movers : ℕ) (some : 0 < lanes) (few : lanes ≤ 8) (crowd
 
   root_checks : AllByRecursion (λ check. FailsAt tree 0 check → ⊥) profile.root_line.checks
   root_checks = (
-    not_both (not (is_called tree (codes "commonRoad") 0)) (ap not (called_is tree (codes "commonRoad") 0 (roads seed lanes movers) h)),
+    both_ways (not (is_called tree (codes "commonRoad") 0)) (ap not (called_is tree (codes "commonRoad") 0 (roads seed lanes movers) h)),
     (
-      not_both (not (unwrap_or (option_map (λ v. bytes_eq v (codes "2020a")) (attribute_at tree 0 (codes "commonRoadVersion"))) false)) (ap (λ (o : Option (List ℕ)). not (unwrap_or (option_map (λ v. bytes_eq v (codes "2020a")) o) false)) version_is),
+      both_ways (not (unwrap_or (option_map (λ v. bytes_eq v (codes "2020a")) (attribute_at tree 0 (codes "commonRoadVersion"))) false)) (ap (λ (o : Option (List ℕ)). not (unwrap_or (option_map (λ v. bytes_eq v (codes "2020a")) o) false)) version_is),
       (
-        not_both (is_none (attribute_at tree 0 (codes "timeStepSize"))) (ap (λ (o : Option (List ℕ)). is_none o) step_is),
+        both_ways (is_none (attribute_at tree 0 (codes "timeStepSize"))) (ap (λ (o : Option (List ℕ)). is_none o) step_is),
         (
-          not_both (is_bad_number (step_size_text tree)) (ap is_bad_number text_of_step ∙ step_good),
+          both_ways (is_bad_number (step_size_text tree)) (ap is_bad_number text_of_step ∙ step_good),
           (
             λ large. (let P : List ℕ → Type 0 = λ t. IsTooLarge 6 t in in_range coordinate (codes "0.1") step_fits (inl (subst P text_of_step large))),
             (λ u. (let P : List ℕ → Type 0 = λ t. IsUneven t in step_even (subst P text_of_step u)), tt),
@@ -198,12 +191,12 @@ module _ (seed lanes movers : ℕ) (some : 0 < lanes) (few : lanes ≤ 8) (crowd
       let r : (1 ≤ j) × (j < 1 + lanes) = bounds 1 lanes j listed in
       let id : id_at tree e ≡ Some j = id_is tree e (lanelet lanes j) stands ∙ lane_id j r.0 (omega (arith, r.1)) in
       let c = counts e j stands in (
-        not_both (is_none (id_at tree e)) (ap (λ (o : Option ℕ). is_none o) id),
+        both_ways (is_none (id_at tree e)) (ap (λ (o : Option ℕ). is_none o) id),
         (
-          not_both (is_second tree (at_paths tree (lanelets ∷ [])) e) (ap (λ (es : List ℕ). is_second tree es e) (append-nil (at_path tree lanelets)) ∙ no_second tree (at_path tree lanelets) (map (lanelet lanes) (numbers_from 1 lanes)) e at_lanelets lanelet_ids here),
+          both_ways (is_second tree (at_paths tree (lanelets ∷ [])) e) (ap (λ (es : List ℕ). is_second tree es e) (append-nil (at_path tree lanelets)) ∙ no_second tree (at_path tree lanelets) (map (lanelet lanes) (numbers_from 1 lanes)) e at_lanelets lanelet_ids here),
           (
             no_failure tree e (lanelet lanes j) stands (lacks_a_child (codes "leftBound" ∷ codes "rightBound" ∷ [])) refl,
-            (not_both (not (point_count tree (codes "leftBound") e == point_count tree (codes "rightBound") e) || nat_lt (point_count tree (codes "leftBound") e) 2) (count_fine (point_count tree (codes "leftBound") e) (point_count tree (codes "rightBound") e) c.0 c.1), tt),
+            (both_ways (not (point_count tree (codes "leftBound") e == point_count tree (codes "rightBound") e) || nat_lt (point_count tree (codes "leftBound") e) 2) (count_fine (point_count tree (codes "leftBound") e) (point_count tree (codes "rightBound") e) c.0 c.1), tt),
           ),
         ),
       )
@@ -249,9 +242,9 @@ module _ (seed lanes movers : ℕ) (some : 0 < lanes) (few : lanes ≤ 8) (crowd
       let (m, listed, stands) = partner (λ e m. Stands tree e (mover seed lanes m)) (at_path tree dynamics) (numbers_from 0 movers) e (through_map (Stands tree) (mover seed lanes) (at_path tree dynamics) (numbers_from 0 movers) at_dynamics) here in
       let r : (0 ≤ m) × (m < 0 + movers) = bounds 0 movers m listed in
       let id : id_at tree e ≡ Some (1001 + m) = id_is tree e (mover seed lanes m) stands ∙ mover_id m (omega (arith, r.1)) in (
-        not_both (is_none (id_at tree e)) (ap (λ (o : Option ℕ). is_none o) id),
+        both_ways (is_none (id_at tree e)) (ap (λ (o : Option ℕ). is_none o) id),
         (
-          not_both (is_second tree (at_paths tree obstacles) e) (ap (λ (es : List ℕ). is_second tree es e) all_obstacles ∙ no_second tree (at_path tree dynamics) (map (mover seed lanes) (numbers_from 0 movers)) e at_dynamics mover_ids here),
+          both_ways (is_second tree (at_paths tree obstacles) e) (ap (λ (es : List ℕ). is_second tree es e) all_obstacles ∙ no_second tree (at_path tree dynamics) (map (mover seed lanes) (numbers_from 0 movers)) e at_dynamics mover_ids here),
           (
             not_many e,
             (no_failure tree e (mover seed lanes m) stands (lacks_a_child (codes "shape" ∷ codes "initialState" ∷ [])) refl, tt),
@@ -275,9 +268,9 @@ module _ (seed lanes movers : ℕ) (some : 0 < lanes) (few : lanes ≤ 8) (crowd
       let here : Includes (at_path tree problems) e = only_start tree problems s e is_start (here_only tree w (at_path tree s) e is_way leads) in
       let stands : Stands tree e problem = problem_at e (at_path tree problems) at_problems here in
       let id : id_at tree e ≡ Some 1 = id_is tree e problem stands in (
-        not_both (is_none (id_at tree e)) (ap (λ (o : Option ℕ). is_none o) id),
+        both_ways (is_none (id_at tree e)) (ap (λ (o : Option ℕ). is_none o) id),
         (
-          not_both (is_second tree (at_paths tree (problems ∷ [])) e) (ap (λ (es : List ℕ). is_second tree es e) (append-nil (at_path tree problems)) ∙ no_second tree (at_path tree problems) (problem ∷ []) e at_problems (λ i. i, tt) here),
+          both_ways (is_second tree (at_paths tree (problems ∷ [])) e) (ap (λ (es : List ℕ). is_second tree es e) (append-nil (at_path tree problems)) ∙ no_second tree (at_path tree problems) (problem ∷ []) e at_problems (λ i. i, tt) here),
           (no_failure tree e problem stands (lacks_a_child (codes "initialState" ∷ [])) refl, tt),
         ),
       )

@@ -1,7 +1,8 @@
 -- The texts of numbers that a sample has, read one by one.
-use Rattle.std.proofs.Common.{◌≡◌, ◌∙◌, ◌⊎◌, inl, inr, ℕ, suc, zero, ◌+◌, ◌*◌, ◌-◌, ◌%◌, ◌<◌, ◌≤◌, ◌==◌, ◌&&◌, Bool, true, false, List, [], ◌∷◌, Option, Some, None, refl, ap, sym, subst, arith, codes, decimal}
+use Rattle.std.proofs.Common.{◌≡◌, ◌∙◌, ◌⊎◌, inl, inr, ℕ, suc, zero, ◌+◌, ◌*◌, ◌<◌, ◌≤◌, ◌==◌, Bool, true, false, List, [], ◌∷◌, Option, Some, None, refl, ap, arith, decimal}
 use Rattle.std.specs.List.{list_all}
 use Rattle.std.specs.Fmt.{digits}
+use Rattle.std.proofs.lemmas.Bool.{and_parts}
 use Rattle.std.proofs.lemmas.Bool.Decides.{nat_tests}
 use Rattle.spot_terms.specs.Lists.{Includes, numbers_from}
 use Rattle.spot_terms.specs.Decimal.{fraction_of}
@@ -25,18 +26,10 @@ bounds n zero k h = absurd h
 bounds n (suc count) k (inl e) = (omega (arith, e), omega (arith, e))
 bounds n (suc count) k (inr h) = let r = bounds (n + 1) count k h in (omega (arith, r.0), omega (arith, r.1))
 
-first : (a b : Bool) → (a && b) ≡ true → a ≡ true
-first true b e = refl
-first false b e = cc
-
-second : (a b : Bool) → (a && b) ≡ true → b ≡ true
-second true b e = e
-second false b e = cc
-
 pub from_table : (p : ℕ → Bool) (xs : List ℕ) (k : ℕ) → list_all p xs ≡ true → Includes xs k → p k ≡ true
 from_table p [] k h i = absurd i
-from_table p (x ∷ xs) k h (inl e) = ap p e ∙ first (p x) (list_all p xs) h
-from_table p (x ∷ xs) k h (inr i) = from_table p xs k (second (p x) (list_all p xs) h) i
+from_table p (x ∷ xs) k h (inl e) = ap p e ∙ (and_parts (p x) (list_all p xs) h).0
+from_table p (x ∷ xs) k h (inr i) = from_table p xs k ((and_parts (p x) (list_all p xs) h).1) i
 
 -- ---- the tables
 

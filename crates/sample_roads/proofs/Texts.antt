@@ -1,5 +1,5 @@
 -- What is printed of a made element is its text.
-use Rattle.std.proofs.Common.{◌≡◌, ◌∙◌, ℕ, Bool, true, false, cond, List, [], ◌∷◌, ◌++◌, refl, sym, ap, append_assoc, append-nil}
+use Rattle.std.proofs.Common.{◌≡◌, ◌∙◌, ℕ, Bool, true, false, List, [], ◌∷◌, ◌++◌, refl, sym, ap, append_assoc, append-nil}
 use Rattle.std.specs.Prelude.{⊤, codes}
 use Rattle.json.specs.Print as printed
 use Rattle.json.specs.Print.{escape, print, print_from, separator}

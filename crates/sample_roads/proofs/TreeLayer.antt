@@ -1,14 +1,15 @@
 -- What is made, in the tree of its text: each made element stands there, its children one after another behind it.
-use Rattle.std.proofs.Common.{◌≡◌, ◌∙◌, ℕ, zero, suc, ◌+◌, ◌<◌, ◌≤◌, Bool, true, false, cond, ◌&&◌, nat_lt, List, [], ◌∷◌, ◌++◌, length, get_or, Option, Some, None, refl, sym, ap, subst, arith, append_assoc, append-nil, length-append, Less, Equal, Greater}
+use Rattle.std.proofs.Common.{◌≡◌, ◌∙◌, ℕ, ◌+◌, Bool, true, false, cond, nat_lt, List, [], ◌∷◌, ◌++◌, length, get_or, Option, Some, None, refl, sym, ap, subst, arith, append_assoc, append-nil, length-append, Less, Equal, Greater}
 use Rattle.std.specs.Prelude.{⊤}
 use Rattle.std.specs.List.{filter, filter_map, flat_map, find}
 use Rattle.std.specs.Str.{bytes_eq}
 use Rattle.std.specs.Ordering.{nat_cmp, match_ordering}
 use Rattle.std.specs.Cmp.Lexicographic.{slice_cmp}
 use Rattle.std.proofs.lemmas.List.{get_or_at}
-use Rattle.serde_json.specs.Data.{Data, string, array, object, Items, no_items, item, Members, no_members, member, put}
+use Rattle.std.proofs.lemmas.Bool.{and_from, and_parts}
+use Rattle.serde_json.specs.Data.{Data, string, array, Items, item, Members, no_members, member, put}
 use Rattle.spot_terms.specs.Lists.{Pairwise}
-use Rattle.spot_claims.specs.Tree.{Element, no_element, element_in, element_of, numbered, wanted, wanted_in, wanted_behind_name, wanted_of, tree_of, fault_of, fault_from, content, children_from, is_string, has_name, are_strings, joined, trimmed, string_of, pairs_of, is_called, all_named, first_named, attribute_at, text_at, value_at}
+use Rattle.spot_claims.specs.Tree.{Element, no_element, element_in, element_of, numbered, wanted, wanted_in, wanted_behind_name, tree_of, fault_of, fault_from, content, children_from, is_string, has_name, are_strings, joined, trimmed, pairs_of, is_called, all_named, first_named, attribute_at, text_at, value_at}
 use Rattle.spot_claims.specs.Paths.{Step, each_child, first_child, Path, take_step, walk}
 use Rattle.spot_tree.proofs.Numbering.{behind_name_is, length-numbered, numbered-append, fault_behind, sound_array}
 use Rattle.spot_terms.proofs.ListLemmas.{pairwise_append}
@@ -81,24 +82,13 @@ abbrev mutual
   AreNamed nothing = ⊤
   AreNamed (further m ms) = IsNamed m × AreNamed ms
 
-both : (a b : Bool) → a ≡ true → b ≡ true → (a && b) ≡ true
-both a b e f = rw e f
-
-second : (a b : Bool) → (a && b) ≡ true → b ≡ true
-second true b e = e
-second false b e = cc
-
-first : (a b : Bool) → (a && b) ≡ true → a ≡ true
-first true b e = refl
-first false b e = cc
-
 put_strings : (k s : List ℕ) (ms : Members) → are_strings ms ≡ true → are_strings (put k (string s) ms) ≡ true
 put_strings k s no_members h = refl
 put_strings k s (member l d ms) h =
     elim (slice_cmp nat_cmp k l) as (λ o. are_strings (match_ordering o (member k (string s) (member l d ms)) (member l (string s) ms) (member l d (put k (string s) ms))) ≡ true) [
       | Less ↦ h
-      | Equal ↦ second (is_string d) (are_strings ms) h
-      | Greater ↦ both (is_string d) (are_strings (put k (string s) ms)) (first (is_string d) (are_strings ms) h) (put_strings k s ms (second (is_string d) (are_strings ms) h))
+      | Equal ↦ (and_parts (is_string d) (are_strings ms) h).1
+      | Greater ↦ and_from (is_string d) (are_strings (put k (string s) ms)) ((and_parts (is_string d) (are_strings ms) h).0) (put_strings k s ms ((and_parts (is_string d) (are_strings ms) h).1))
     ]
 
 all_strings : (attributes : List (List ℕ × List ℕ)) (found : Members) → are_strings found ≡ true → are_strings (put_all attributes found) ≡ true

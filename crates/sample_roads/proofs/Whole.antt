@@ -1,9 +1,9 @@
 -- The text of a sample is that of a tree, which is accepted.
-use Rattle.std.proofs.Common.{◌≡◌, ◌∙◌, ℕ, zero, suc, ◌+◌, ◌*◌, ◌-◌, ◌&&◌, cond, ◌<◌, ◌≤◌, max, nat_lt, Bool, true, false, List, [], ◌∷◌, ◌++◌, length, map, refl, sym, ap, subst, arith, codes}
-use Rattle.std.specs.Prelude.{⊤}
+use Rattle.std.proofs.Common.{◌≡◌, ℕ, ◌+◌, ◌*◌, ◌-◌, ◌&&◌, cond, ◌<◌, ◌≤◌, nat_lt, Bool, true, false, List, [], ◌∷◌, ◌++◌, length, map, refl, sym, subst, arith, codes}
 use Rattle.std.specs.List.{AllByRecursion}
 use Rattle.std.specs.Str.{IsUtf8}
-use Rattle.spot_terms.specs.Lists.{Includes, numbers_from}
+use Rattle.std.proofs.lemmas.Bool.{and_parts}
+use Rattle.spot_terms.specs.Lists.{numbers_from}
 use Rattle.spot_terms.proofs.ListLemmas.{all_append}
 use Rattle.spot_terms.proofs.Members.{all_in_map}
 use Rattle.spot_claims.specs.Tree.{Element, IsTreeOf, tree_of}
@@ -27,18 +27,14 @@ abbrev mutual
   names_in nothing = true
   names_in (further m ms) = names m && names_in ms
 
-both_of : (a b : Bool) → (a && b) ≡ true → (a ≡ true) × (b ≡ true)
-both_of true b h = (refl, h)
-both_of false b h = cc
-
 mutual
   named_by : (m : Made) → names m ≡ true → IsNamed m
   named_by (leaf name text) h = h
-  named_by (branch name attributes ms) h = let r = both_of (nat_lt 0 (length name)) (names_in ms) h in (r.0, all_named_by ms r.1)
+  named_by (branch name attributes ms) h = let r = and_parts (nat_lt 0 (length name)) (names_in ms) h in (r.0, all_named_by ms r.1)
 
   all_named_by : (ms : Mades) → names_in ms ≡ true → AreNamed ms
   all_named_by nothing h = tt
-  all_named_by (further m ms) h = let r = both_of (names m) (names_in ms) h in (named_by m r.0, all_named_by ms r.1)
+  all_named_by (further m ms) h = let r = and_parts (names m) (names_in ms) h in (named_by m r.0, all_named_by ms r.1)
 
 -- ---- all that is made is named, and not too high
 

@@ -1,7 +1,7 @@
 -- The tokens of what is made, so that they can be written one after another.
-use Rattle.std.specs.Prelude.{ℕ, List, [], ◌∷◌, ◌++◌, codes, decimal}
+use Rattle.std.specs.Prelude.{ℕ, List, [], ◌∷◌, codes}
 use Rattle.std.specs.List.{flat_map}
-use Rattle.json.specs.Token.{Token, begin_object, end_object, begin_array, end_array, key, string}
+use Rattle.json.specs.Token.{Token, begin_object, end_object, begin_array, key, string}
 use Rattle.json.specs.Tree.{json_tokens}
 use Rattle.spot_terms.specs.Samples.{Made}
 use Rattle.sample_roads.specs.JsonOf.{json_of}

@@ -10,6 +10,7 @@ use Rattle.spot_terms.specs.Participants.{starting}
 use Rattle.spot_terms.specs.Pieces.{Piece, cut_octagon, disc, InPiece}
 use Rattle.spot_terms.specs.Reach.{InOctagon, interval_numbers, disc_numbers}
 use Rattle.spot_terms.specs.Report.{Line, mover_line, occ_line}
+use Rattle.spot_terms.specs.Tasks.{PredictsTraffic}
 use Rattle.spot_terms.specs.declared.command.Command.{Command}
 use Rattle.spot_terms.specs.declared.lines.MoverLine.{MoverLine}
 use Rattle.spot_terms.specs.declared.plain.AccStart.{AccStart}
@@ -25,7 +26,7 @@ use Rattle.spot_claims.specs.ParticipantClaims.{HoldsTick, InOccupancy}
 use Rattle.spot_claims.specs.Problems.{ego_radius}
 use Rattle.spot_claims.specs.ReportOf.{start_of, IsExactMover, IsObstacleLine, movers_in, ArePolygonsOf, polygon_line, polygon_lines, occ_lines, fixed_of, IsTraffic}
 use Rattle.spot_claims.specs.Entered.{StruckIsEntered, StruckIsCollided}
-use Rattle.spot_claims.proofs.OneReport.{area_pieces, replay_pieces}
+use Rattle.spot_claims.proofs.OneReport.{traffic_pieces, replay_pieces}
 use Rattle.spot_terms.proofs.OneStart.{start_one, speed_one}
 use Rattle.spot_terms.proofs.OneLabel.{polygons_one}
 use Rattle.spot_claims.proofs.ExactStart.{exact_start}
@@ -226,7 +227,7 @@ holds_tick k n (suc j) some le =
 
 pub struck_is_entered : StruckIsEntered
 struck_is_entered s c course traffic lines pieces i states area some le ticks tr all are (j, p, state, at, got, less, (piece, found, inside)) =
-    let (occupants, known, same) = area_pieces s c pieces area are in
+    let (occupants, known, same) = traffic_pieces s c pieces (subst PredictsTraffic (sym area) tt) are in
     let listed : Includes (pieces j) piece = got_included (pieces j) p piece found in
     let within : Includes (predicted_pieces s occupants j) piece = subst (λ (z : List Piece). Includes z piece) (same j (omega (arith, at, le))) listed in record {
       tick = j * s.step;

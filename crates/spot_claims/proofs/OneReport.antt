@@ -1,5 +1,5 @@
 -- There is one report of a command and a scenario at most.
-use Rattle.std.proofs.Common.{◌≡◌, ◌∙◌, ℕ, ◌≤◌, List, length, sym, ap, subst}
+use Rattle.std.proofs.Common.{◌≡◌, ◌∙◌, ℕ, ◌≤◌, List, length, refl, sym, ap, subst}
 use Rattle.spot_terms.specs.BaseSets.{SetValue}
 use Rattle.spot_terms.specs.OccupiedPieces.{Occupant, IsOccupant, AreOccupants, predicted_pieces, recorded_pieces}
 use Rattle.spot_terms.specs.Participants.{starting}
@@ -7,10 +7,13 @@ use Rattle.spot_terms.specs.Pieces.{Piece, Hits}
 use Rattle.spot_terms.specs.Report.{Line}
 use Rattle.spot_terms.specs.StepLists.{AreStepLists}
 use Rattle.spot_terms.specs.declared.command.Command.{Command}
-use Rattle.spot_terms.specs.declared.command.Task.TheVariants.{Area, Replay}
+use Rattle.spot_terms.specs.Tasks.{PredictsTraffic}
+use Rattle.spot_terms.specs.declared.command.Task.{Task}
+use Rattle.spot_terms.specs.declared.command.Task.TheVariants.{Predict, Area, Replay, Draw, Sample}
 use Rattle.spot_terms.specs.declared.lines.End.{End}
 use Rattle.spot_terms.specs.declared.scenario.Problem.{Problem}
 use Rattle.spot_terms.specs.declared.scenario.Scenario.{Scenario}
+use Rattle.spot_terms.specs.Tasks.{PredictsTraffic}
 use Rattle.spot_terms.proofs.StepLists.{step_lists_are_one}
 use Rattle.spot_claims.specs.AreaOf.{ArePieces, IsRun, IsAreaReport, IsReplayReport}
 use Rattle.spot_claims.specs.OneReport.{ReportsAreOne}
@@ -24,18 +27,38 @@ module _ (s : Scenario) (c : Command) where
   occupants_one : (os ps : List Occupant) → AreOccupants s c.steps os → AreOccupants s c.steps ps → os ≡ ps
   occupants_one os ps h i = pairwise_one (IsOccupant s.lanelets.entries s.step c.steps) (occupant_one s.lanelets.entries s.step c.steps) (starting s.movers) os ps h i
 
-  pub area_pieces : (ps : ℕ → List Piece) → c.task ≡ Area → ArePieces s c ps → (occupants : List Occupant) × AreOccupants s c.steps occupants × ((i : ℕ) → i ≤ c.steps → ps i ≡ predicted_pieces s occupants i)
-  area_pieces ps e h = rw e at h
+  -- of each task that predicts traffic
+  traffic_pieces_as : (task : Task) (ps : ℕ → List Piece) → c.task ≡ task → PredictsTraffic task → ArePieces s c ps
+      → (occupants : List Occupant) × AreOccupants s c.steps occupants × ((i : ℕ) → i ≤ c.steps → ps i ≡ predicted_pieces s occupants i)
+  traffic_pieces_as Predict ps e predicts h = rw e at h
+  traffic_pieces_as Area ps e predicts h = rw e at h
+  traffic_pieces_as Replay ps e predicts h = absurd predicts
+  traffic_pieces_as Draw ps e predicts h = rw e at h
+  traffic_pieces_as Sample ps e predicts h = rw e at h
+
+  pub traffic_pieces : (ps : ℕ → List Piece) → PredictsTraffic c.task → ArePieces s c ps → (occupants : List Occupant) × AreOccupants s c.steps occupants × ((i : ℕ) → i ≤ c.steps → ps i ≡ predicted_pieces s occupants i)
+  traffic_pieces ps predicts h = traffic_pieces_as c.task ps refl predicts h
+
+  pieces_as : (task : Task) (ps : ℕ → List Piece) (occupants : List Occupant) → c.task ≡ task → PredictsTraffic task → AreOccupants s c.steps occupants
+      → ((i : ℕ) → i ≤ c.steps → ps i ≡ predicted_pieces s occupants i) → ArePieces s c ps
+  pieces_as Predict ps occupants e predicts are is = rw e (occupants, are, is)
+  pieces_as Area ps occupants e predicts are is = rw e (occupants, are, is)
+  pieces_as Replay ps occupants e predicts are is = absurd predicts
+  pieces_as Draw ps occupants e predicts are is = rw e (occupants, are, is)
+  pieces_as Sample ps occupants e predicts are is = rw e (occupants, are, is)
+
+  pub pieces_of_traffic : (ps : ℕ → List Piece) (occupants : List Occupant) → PredictsTraffic c.task → AreOccupants s c.steps occupants → ((i : ℕ) → i ≤ c.steps → ps i ≡ predicted_pieces s occupants i) → ArePieces s c ps
+  pieces_of_traffic ps occupants predicts are is = pieces_as c.task ps occupants refl predicts are is
+
+  pub traffic_same : (ps qs : ℕ → List Piece) → PredictsTraffic c.task → ArePieces s c ps → ArePieces s c qs → (i : ℕ) → i ≤ c.steps → ps i ≡ qs i
+  traffic_same ps qs predicts h k i within =
+      let (os, a, f) = traffic_pieces ps predicts h in
+      let (other, b, g) = traffic_pieces qs predicts k in
+      let same : os ≡ other = occupants_one os other a b in
+      f i within ∙ ap (λ (x : List Occupant). predicted_pieces s x i) same ∙ sym (g i within)
 
   pub replay_pieces : (ps : ℕ → List Piece) → c.task ≡ Replay → ArePieces s c ps → (i : ℕ) → i ≤ c.steps → ps i ≡ recorded_pieces s (ego_radius c) i
   replay_pieces ps e h = rw e at h
-
-  pub area_same : (ps qs : ℕ → List Piece) → c.task ≡ Area → ArePieces s c ps → ArePieces s c qs → (i : ℕ) → i ≤ c.steps → ps i ≡ qs i
-  area_same ps qs e h k i within =
-      let (os, a, f) = area_pieces ps e h in
-      let (other, b, g) = area_pieces qs e k in
-      let same : os ≡ other = occupants_one os other a b in
-      f i within ∙ ap (λ (x : List Occupant). predicted_pieces s x i) same ∙ sym (g i within)
 
   pub replay_same : (ps qs : ℕ → List Piece) → c.task ≡ Replay → ArePieces s c ps → ArePieces s c qs → (i : ℕ) → i ≤ c.steps → ps i ≡ qs i
   replay_same ps qs e h k i within = replay_pieces ps e h i within ∙ sym (replay_pieces qs e k i within)
@@ -53,7 +76,7 @@ module _ (s : Scenario) (c : Command) where
 
   area_one : (xs ys : List Line) (d e : End) → c.task ≡ Area → IsAreaReport s c xs d → IsAreaReport s c ys e → (xs ≡ ys) × (d ≡ e)
   area_one xs ys d e t h k =
-      let both = run_one h.problem k.problem h.pieces k.pieces h.lists k.lists d e (area_same h.pieces k.pieces t h.run.pieces_are k.run.pieces_are) h.run k.run in
+      let both = run_one h.problem k.problem h.pieces k.pieces h.lists k.lists d e (traffic_same h.pieces k.pieces (subst PredictsTraffic (sym t) tt) h.run.pieces_are k.run.pieces_are) h.run k.run in
       let lists : h.lists ≡ k.lists = both.0 in
       let ends : d ≡ e = both.1 in
       let problem : h.problem ≡ k.problem = problem_one h.problem k.problem h.pieces k.pieces h.lists k.lists d e h.run k.run in

@@ -7,7 +7,7 @@ use Rattle.spot_terms.specs.declared.status.Code.TheVariants.{NotJson}
 use Rattle.spot_terms.specs.declared.status.Status.{Status}
 use Rattle.spot_terms.specs.declared.status.Status.TheVariants.{Open, Empty, BadWords, Refused, Limit, ReadFault, WriteFault, Memory}
 use Rattle.spot_terms.specs.declared.status.Which.TheVariants.{TooLong}
-use Rattle.spot_claims.specs.Answers.{IsOutside, ExactlyWhere, BadWordsExactly, NotYetExactly, ReadFaultOnly, TooLongExactly, NotJsonExactly, NotTreeExactly, RefusedExactly, NoProblemExactly, LateProblemExactly, EgoTooFastExactly, TooManyCellsExactly, LaneTooWideExactly, TooManyLanePolygonsExactly, AreaTooWideExactly, TooManyBoxesExactly, WriteFaultOnly, IsKnown, IsKnownAs}
+use Rattle.spot_claims.specs.Answers.{IsOutside, ExactlyWhere, BadWordsExactly, ReadFaultOnly, TooLongExactly, NotJsonExactly, NotTreeExactly, RefusedExactly, NoProblemExactly, LateProblemExactly, EgoTooFastExactly, TooManyCellsExactly, LaneTooWideExactly, TooManyLanePolygonsExactly, AreaTooWideExactly, TooManyBoxesExactly, WriteFaultOnly, IsKnown, IsKnownAs}
 use Rattle.spot_claims.specs.Headline.{Headline}
 use Rattle.spot_claims.specs.Outcomes.{Completes, Fails, IsAfterReading, ReadsSource, WritesOutput}
 use Rattle.spot_claims.specs.Outputs.{IsWritten}
@@ -201,17 +201,6 @@ module _ (run : Run) (after : Option (List ℕ)) (faults : ℕ) (status : Status
     ];
   }
 
-  pub not_yet_still : NotYetExactly run → NotYetExactly now
-  not_yet_still h = record {
-    only = λ is. h.only (was_answer run.status status _ sent.ends (λ written. written) is);
-    never = λ c stands built is. h.never c stands built (was_answer run.status status _ sent.ends (λ written. written) is);
-    comes = λ other. elim (h.comes other) [
-      | inl refused ↦ inl (same_answer run.status status _ sent.ends (λ written. written) refused)
-      | inr memory ↦ inr (same_answer run.status status Memory sent.ends (λ written. written) memory)
-    ];
-    scenario = λ c stands built told. same_cause _ _ (λ written. written) (h.scenario c stands built told);
-  }
-
   pub read_fault_still : ReadFaultOnly run → ReadFaultOnly now
   read_fault_still h is = h (was_answer run.status status ReadFault sent.ends (λ written. written) is)
 
@@ -262,8 +251,8 @@ module _ (run : Run) (after : Option (List ℕ)) (faults : ℕ) (status : Status
   still_fails (inr write) = inr (rose_before run.write_faults run.write_faults_now faults sent.later write)
 
   pub complete_still : WriteFaultOnly run → Completes run → Completes now
-  complete_still fault h = λ c bytes stands built input accepted passes none.
-      elim (h c bytes stands built input accepted passes (λ fails. none (still_fails fails))) [
+  complete_still fault h = λ c bytes stands input accepted passes none.
+      elim (h c bytes stands input accepted passes (λ fails. none (still_fails fails))) [
         | inl done ↦ elim sent.ends [
           | inl same ↦ inl (subst IsDone (sym same) done)
           | inr changed ↦ absurd (none (inr (write_fault_still fault changed.1)))

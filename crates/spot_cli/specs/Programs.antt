@@ -1,5 +1,5 @@
 -- What the program says of a run.
-use Rattle.spot_claims.specs.Answers.{AreaTooWideExactly, BadWordsExactly, EgoTooFastExactly, IsKnown, LaneTooWideExactly, LateProblemExactly, NoProblemExactly, NotJsonExactly, NotTreeExactly, NotYetExactly, ReadFaultOnly, RefusedExactly, TooLongExactly, TooManyBoxesExactly, TooManyCellsExactly, TooManyLanePolygonsExactly, WriteFaultOnly}
+use Rattle.spot_claims.specs.Answers.{AreaTooWideExactly, BadWordsExactly, EgoTooFastExactly, IsKnown, LaneTooWideExactly, LateProblemExactly, NoProblemExactly, NotJsonExactly, NotTreeExactly, ReadFaultOnly, RefusedExactly, TooLongExactly, TooManyBoxesExactly, TooManyCellsExactly, TooManyLanePolygonsExactly, WriteFaultOnly}
 use Rattle.spot_claims.specs.Headline.{Headline}
 use Rattle.spot_claims.specs.Outcomes.{Completes, ReadsSource, WritesOutput}
 use Rattle.spot_claims.specs.Runs.{Run}
@@ -11,7 +11,6 @@ pub record IsSound (run : Run) : Type 0 where
   pub source_read : ReadsSource run
   pub known : IsKnown run
   pub bad_words : BadWordsExactly run
-  pub not_yet : NotYetExactly run
   pub read_fault : ReadFaultOnly run
   pub too_long : TooLongExactly run
   pub not_json : NotJsonExactly run

@@ -1,7 +1,7 @@
 -- The line on standard error for each status.
 use Rattle.std.specs.Prelude.{ℕ, List, [], ◌∷◌, ◌++◌, codes, decimal}
 use Rattle.spot_terms.specs.declared.status.Code.{Code}
-use Rattle.spot_terms.specs.declared.status.Code.TheVariants.{NotJson, NotTree, Root, Version, Missing, BadNumber, OutOfRange, StepSize, BadId, DuplicateId, BoundCount, UncertainPosition, UncertainValue, TooManyParticipants, NoProblem, LateProblem, EgoTooFast, NotYet}
+use Rattle.spot_terms.specs.declared.status.Code.TheVariants.{NotJson, NotTree, Root, Version, Missing, BadNumber, OutOfRange, StepSize, BadId, DuplicateId, BoundCount, UncertainPosition, UncertainValue, TooManyParticipants, NoProblem, LateProblem, EgoTooFast}
 use Rattle.spot_terms.specs.declared.status.Which.{Which}
 use Rattle.spot_terms.specs.declared.status.Which.TheVariants.{TooLong, TooManyCells, LaneTooWide, TooManyLanePolygons, AreaTooWide, TooManyBoxes}
 use Rattle.spot_terms.specs.declared.status.Status.{Status}
@@ -25,7 +25,6 @@ code_word TooManyParticipants = codes "TooManyParticipants"
 code_word NoProblem = codes "NoProblem"
 code_word LateProblem = codes "LateProblem"
 code_word EgoTooFast = codes "EgoTooFast"
-code_word NotYet = codes "NotYet"
 
 abbrev pub which_word : Which → List ℕ
 which_word TooLong = codes "TooLong"

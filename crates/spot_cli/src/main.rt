@@ -8,7 +8,7 @@ ghost use Rattle.std.specs.Prelude.{◌≡◌, ◌≢◌, ◌⊎◌, ◌≤◌, 
 ghost use Rattle.std.specs.Io.KnownBytes.{Appends, Keeps};
 ghost use Rattle.std.specs.IoError.{error_kind};
 ghost use Rattle.std.specs.Process.{exit_status};
-ghost use Rattle.spot_claims.specs.Answers.{AreaTooWideExactly, BadWordsExactly, EgoTooFastExactly, IsKnown, LaneTooWideExactly, LateProblemExactly, NoProblemExactly, NotJsonExactly, NotTreeExactly, NotYetExactly, ReadFaultOnly, RefusedExactly, TooLongExactly, TooManyBoxesExactly, TooManyCellsExactly, TooManyLanePolygonsExactly, WriteFaultOnly};
+ghost use Rattle.spot_claims.specs.Answers.{AreaTooWideExactly, BadWordsExactly, EgoTooFastExactly, IsKnown, LaneTooWideExactly, LateProblemExactly, NoProblemExactly, NotJsonExactly, NotTreeExactly, ReadFaultOnly, RefusedExactly, TooLongExactly, TooManyBoxesExactly, TooManyCellsExactly, TooManyLanePolygonsExactly, WriteFaultOnly};
 ghost use Rattle.spot_claims.specs.Headline.{Headline};
 ghost use Rattle.spot_claims.specs.Outcomes.{Completes, ReadsSource, TakesOutput, WritesOutput};
 ghost use Rattle.spot_claims.specs.Outputs.{IsWritten};
@@ -86,7 +86,6 @@ fn run<S: Source, K: Buffered>(
     // When each answer comes.
     ensures known { IsKnown (run_of words.now.items S.Source source.old source.new K.Sink sink.old sink.new result) }
     ensures bad_words { BadWordsExactly (run_of words.now.items S.Source source.old source.new K.Sink sink.old sink.new result) }
-    ensures not_yet { NotYetExactly (run_of words.now.items S.Source source.old source.new K.Sink sink.old sink.new result) }
     ensures read_fault { ReadFaultOnly (run_of words.now.items S.Source source.old source.new K.Sink sink.old sink.new result) }
     ensures too_long { TooLongExactly (run_of words.now.items S.Source source.old source.new K.Sink sink.old sink.new result) }
     ensures not_json { NotJsonExactly (run_of words.now.items S.Source source.old source.new K.Sink sink.old sink.new result) }

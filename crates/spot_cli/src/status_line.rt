@@ -58,7 +58,6 @@ pub fn code_word(code: Code) -> &'static str
         Code::NoProblem => "NoProblem",
         Code::LateProblem => "LateProblem",
         Code::EgoTooFast => "EgoTooFast",
-        Code::NotYet => "NotYet",
     }
 }
 

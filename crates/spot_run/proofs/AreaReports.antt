@@ -1,12 +1,11 @@
 -- The area of a command: that all stages are passed, and what its report is and claims.
-use Rattle.std.proofs.Common.{◌≡◌, ◌∙◌, inl, inr, ℕ, ◌≤◌, List, [], ◌∷◌, ◌++◌, length, Option, refl, sym, ap, ap₂, subst, append_assoc, arith}
+use Rattle.std.proofs.Common.{◌≡◌, ◌∙◌, inl, inr, ℕ, ◌≤◌, List, [], ◌∷◌, ◌++◌, length, Option, refl, sym, ap, ap₂, subst, append_assoc}
 use Rattle.spot_terms.specs.BaseSets.{SetValue}
 use Rattle.spot_terms.specs.Courses.{Course}
 use Rattle.spot_terms.specs.Ids.{HaveUniqueIds}
 use Rattle.spot_terms.specs.Pieces.{Hits}
 use Rattle.spot_terms.specs.Ranges.{IsCommandInRange, IsInRange}
 use Rattle.spot_terms.specs.Report.{Line, EgoValue, ego_line, last_line, report_text, FitsLine, IsReport}
-use Rattle.spot_terms.specs.RowBoxes.{IsWithinArea}
 use Rattle.spot_terms.specs.StepLists.{AreStepLists}
 use Rattle.spot_terms.specs.Tasks.{PredictsTraffic, FindsArea}
 use Rattle.spot_terms.specs.declared.command.Command.{Command}
@@ -25,26 +24,23 @@ use Rattle.text_report.specs.declared.ego_line.EgoLine.{EgoLine}
 use Rattle.text_report.proofs.ReportLines.{report_text-append}
 use Rattle.spot_claims.specs.AreaOf.{ArePieces, lines_from, area_lines, lines_so_far, IsAreaReport, IsAreaBeginning, AreListsSoFar}
 use Rattle.spot_claims.specs.Headline.{ClaimsOf}
-use Rattle.spot_claims.specs.Outcomes.{PassesAll}
 use Rattle.spot_claims.specs.Outputs.{IsOutputOf, IsOutput, IsBeginningOf, IsOutputSoFar, status_of}
 use Rattle.spot_claims.specs.Problems.{course_of, ego_of}
-use Rattle.spot_claims.specs.Stages.{PassesToArea}
 use Rattle.spot_claims.proofs.AreaCovers.{area_covers}
-use Rattle.spot_claims.proofs.OneReport.{area_same}
 use Rattle.area_report.specs.Areas.{AreShort, text_so_far, whole_text, IsStepsText, AllHold}
 use Rattle.area_report.specs.Egos.{HasEgo}
 use Rattle.area_report.proofs.Egos.{chosen_in_range, fits_of}
 use Rattle.area_report.proofs.FitsSteps.{IsCourse, DiscsFit}
-use Rattle.spot_run.specs.Areas.{count_at, hits_at, range_at, CanOpen, opening_text}
+use Rattle.spot_run.specs.Areas.{count_at, hits_at, CanOpen, opening_text}
 use Rattle.spot_run.specs.Lines.{traffic_lines, opening_lines, report_lines}
-use Rattle.spot_run.specs.Tells.{ClaimsIn, HasSomePieces, Tells}
+use Rattle.spot_run.specs.Tells.{ClaimsIn, Tells}
 use Rattle.spot_run.specs.Writes.{IsPredicted, IsPastLimit}
 use Rattle.spot_run.proofs.AreaLines.{area_others, ego_fits, is_course, begun_fits, all_fits}
 use Rattle.spot_run.proofs.Covers.{traffic_covers}
 use Rattle.spot_run.proofs.Fits.{fits_report}
-use Rattle.spot_run.proofs.Limits.{pieces_area}
-use Rattle.spot_run.proofs.AreaTells.{IsOver, passes_problem, passes_over}
-use Rattle.spot_run.proofs.Predictions.{within_traffic, limit_tells}
+use Rattle.spot_run.proofs.AreaTells.{IsOver, passes_problem}
+use Rattle.spot_run.proofs.OverTraffic as traffic
+use Rattle.spot_run.proofs.Predictions.{limit_tells}
 use Rattle.spot_run.proofs.Reports.{is_traffic}
 
 -- ---- of the task that finds the area
@@ -67,45 +63,23 @@ line_value id course = record { problem = id; a = course.a; v = course.v; w = co
 -- ---- the ego of the command, and the prediction of the scenario
 
 module _ (s : Scenario) (c : Command) (task : c.task ≡ Area) (e : EgoLine) (o : Occupancies) (ego : HasEgo s c e) (predicted : IsPredicted s c.steps o) where
-  -- the course of the ego
-  pub course_is : course_with e.s e.e e.grid s.step ≡ course_of s c ego.problem
-  course_is = ego.is.course s
-
   pub pieces_are : ArePieces s c (pieces_at o)
-  pieces_are = pieces_area s c (pieces_at o) task (predicted.pieces.occupants, predicted.pieces.occupants_are, predicted.pieces.pieces)
+  pieces_are = traffic.pieces_are s c (area_finds c task) (area_predicts c task) e o ego predicted
 
-  pub some_pieces : HasSomePieces s c
-  some_pieces = (pieces_at o, pieces_are)
-
-  pub passes_to_area : PassesToArea s c ego.problem
-  passes_to_area = record { finds = area_finds c task; passing = passes_problem s c e ego; chosen = ego.is_chosen; traffic = λ predicts. within_traffic s c o predicted }
-
-  passes_all : IsWithinArea (course_with e.s e.e e.grid s.step) (count_at o) (range_at o) c.steps → PassesAll s c
-  passes_all h = passes_over s c e ego (pieces_at o) (λ pieces are. area_same s c (pieces_at o) pieces task pieces_are are) (λ predicts. within_traffic s c o predicted) h
+  over_course : (P : Course → Type 0) → P (course_with e.s e.e e.grid s.step) → P (course_of s c ego.problem)
+  over_course P h = traffic.over_course s c (area_finds c task) (area_predicts c task) e o ego predicted P h
 
   -- ---- the report
 
-  over_course : (P : Course → Type 0) → P (course_with e.s e.e e.grid s.step) → P (course_of s c ego.problem)
-  over_course P h = subst P course_is h
-
   same_ego : ego_value e ≡ ego_of ego.problem (course_of s c ego.problem)
-  same_ego = ap₂ line_value ego.is.problem course_is
+  same_ego = ap₂ line_value ego.is.problem (ego.is.course s)
 
   no_discs : DiscsFit (λ i. []) c.steps
   no_discs i d within among = absurd among
 
   module _ (range : IsInRange s) (lanes : AreBuildable s.lanelets.entries) (few : IsCommandInRange c) where
     pub can_open : CanOpen s o.steps 40_000_000_000_000 e c.steps
-    can_open = record {
-      start = ego.is.start;
-      bounds = ego.is.bounds;
-      grid = ego.is.grid;
-      ticks = (range.step_low, range.step_high);
-      fits = fits_of s c ego.problem e ego.is ego.slow;
-      few = few.steps.1;
-      last_in = omega (arith, predicted.is.horizon);
-      far_out = omega arith;
-    }
+    can_open = traffic.can_open s c e o ego predicted range few
 
     good_course : IsCourse (course_of s c ego.problem)
     good_course = over_course IsCourse (is_course e s.step ego.is.start ego.is.bounds ego.is.grid (range.step_low, range.step_high) (fits_of s c ego.problem e ego.is ego.slow))
@@ -219,8 +193,8 @@ module _ (s : Scenario) (c : Command) (task : c.task ≡ Area) (e : EgoLine) (o 
     pub area_over : HaveUniqueIds s → IsOver s c e ego (opening_text s c.steps o e) (λ i. []) (pieces_at o)
     area_over ids = record {
       pieces_are = pieces_are;
-      passing = passes_to_area;
-      passes = passes_all;
+      passing = traffic.passes_to_area s c (area_finds c task) (area_predicts c task) e o ego predicted;
+      passes = traffic.passes_all s c (area_finds c task) (area_predicts c task) e o ego predicted;
       so_far = output_so_far;
       whole = whole_output;
       claims = λ lists ends are hold. claims_in lists ends ids are hold;

@@ -44,6 +44,7 @@ use Rattle.spot_claims.specs.Stages.{IsWithinTraffic, PassesToNetwork, PassesToA
 use Rattle.spot_terms.proofs.Unique.{some_one}
 use Rattle.spot_run.specs.Areas.{IsPastArea, StatusAt, HasWrittenAll, WritesBehind}
 use Rattle.spot_run.specs.Tells.{TakesFor, ClaimsIn, HasWritten, Tells}
+use Rattle.spot_run.proofs.Claims.{has_claims}
 
 -- ---- behind what stands before the first step
 
@@ -127,11 +128,11 @@ module _ {O : Type 0} (count : O → ℕ → ℕ) (hits : O → ℕ → ℕ → 
 
 -- ---- the status of a run that is done
 
-status_is : (at : ℕ) (sets : List SetValue) (ends : End) (status : Status) → IsEnd at sets ends → StatusAt at sets status → status ≡ status_of Area ends
+pub status_is : (at : ℕ) (sets : List SetValue) (ends : End) (status : Status) → IsEnd at sets ends → StatusAt at sets status → status ≡ status_of Area ends
 status_is at [] ends status e h = h ∙ ap (status_of Area) (sym e)
 status_is at (b ∷ sets) ends status e h = h ∙ ap (status_of Area) (sym e)
 
-done_tells : (s : Scenario) (c : Command) (before after : Option (List ℕ)) (at : ℕ) (sets : List SetValue) (status : Status) → StatusAt at sets status → HasWritten s c before after status → Tells s c before after status
+pub done_tells : (s : Scenario) (c : Command) (before after : Option (List ℕ)) (at : ℕ) (sets : List SetValue) (status : Status) → StatusAt at sets status → HasWritten s c before after status → Tells s c before after status
 done_tells s c before after at [] status h w = subst (λ (x : Status). HasWritten s c before after x → Tells s c before after x) (sym h) (λ y. y) w
 done_tells s c before after at (b ∷ sets) status h w = subst (λ (x : Status). HasWritten s c before after x → Tells s c before after x) (sym h) (λ y. y) w
 
@@ -158,7 +159,7 @@ pub record IsOver (s : Scenario) (c : Command) (e : EgoLine) (ego : HasEgo s c e
   pub status : (ends : End) → status_of c.task ends ≡ status_of Area ends
 
 pub passes_problem : (s : Scenario) (c : Command) (e : EgoLine) → HasEgo s c e → PassesToNetwork s c
-passes_problem s c e ego = record { problem = λ finds. (ego.problem, ego.is_chosen, ego.at_start, ego.slow); built = tt }
+passes_problem s c e ego = record { problem = λ finds. (ego.problem, ego.is_chosen, ego.at_start, ego.slow) }
 
 module _ (s : Scenario) (c : Command) (e : EgoLine) (ego : HasEgo s c e) (mine : ℕ → List Piece) (one : (pieces : ℕ → List Piece) → ArePieces s c pieces → (i : ℕ) → i ≤ c.steps → mine i ≡ pieces i) where
   -- what is within the limits over these pieces is so over all pieces of the scenario
@@ -189,27 +190,31 @@ problem_tells s c finds before after (Refused LateProblem place) h = record { fi
 problem_tells s c finds before after (Refused EgoTooFast place) h = record { finds = finds; problem = h.problem; chosen = h.is_chosen; at_start = h.at_start; fast = h.fast; place_is = h.place_is }
 problem_tells s c finds before after status h = absurd h
 
-module _ (s : Scenario) (c : Command) (e : EgoLine) (ego : HasEgo s c e) (opening : List ℕ) (recorded : ℕ → List Disc) (pieces : ℕ → List Piece) (over : IsOver s c e ego opening recorded pieces) where
-  -- of an area that passes a limit
-  pub area_tells : (before after : Option (List ℕ)) (status : Status) → IsPastArea (course_with e.s e.e e.grid s.step) (λ i. length (pieces i)) (λ i. range_of (pieces i)) c.steps status → Tells s c before after status
-  area_tells before after (Limit AreaTooWide step cells) h = (
-    record {
-      problem = ego.problem;
-      passing = over.passing;
-      wide = subst (λ (course : Course). IsAreaTooWide course c.steps step cells) (ego.is.course s) h;
-    },
-    (pieces, over.pieces_are),
-  )
-  area_tells before after (Limit TooManyBoxes step boxes) h = record {
+-- of an area that passes a limit
+pub past_tells : (s : Scenario) (c : Command) (e : EgoLine) (ego : HasEgo s c e) (pieces : ℕ → List Piece) → ArePieces s c pieces → PassesToArea s c ego.problem → (before after : Option (List ℕ)) (status : Status)
+    → IsPastArea (course_with e.s e.e e.grid s.step) (λ i. length (pieces i)) (λ i. range_of (pieces i)) c.steps status → Tells s c before after status
+past_tells s c e ego pieces are passing before after (Limit AreaTooWide step cells) h = (
+  record {
     problem = ego.problem;
-    passing = over.passing;
-    pieces = pieces;
-    pieces_are = over.pieces_are;
-    narrow = subst (λ (course : Course). IsNarrow course c.steps) (ego.is.course s) h.0;
-    many = subst (λ (course : Course). HasTooManyBoxes course (λ i. length (pieces i)) (λ i. range_of (pieces i)) c.steps step boxes) (ego.is.course s) h.1;
-  }
-  area_tells before after Memory h = tt
-  area_tells before after status h = absurd h
+    passing = passing;
+    wide = subst (λ (course : Course). IsAreaTooWide course c.steps step cells) (ego.is.course s) h;
+  },
+  (pieces, are),
+)
+past_tells s c e ego pieces are passing before after (Limit TooManyBoxes step boxes) h = record {
+  problem = ego.problem;
+  passing = passing;
+  pieces = pieces;
+  pieces_are = are;
+  narrow = subst (λ (course : Course). IsNarrow course c.steps) (ego.is.course s) h.0;
+  many = subst (λ (course : Course). HasTooManyBoxes course (λ i. length (pieces i)) (λ i. range_of (pieces i)) c.steps step boxes) (ego.is.course s) h.1;
+}
+past_tells s c e ego pieces are passing before after Memory h = tt
+past_tells s c e ego pieces are passing before after status h = absurd h
+
+module _ (s : Scenario) (c : Command) (e : EgoLine) (ego : HasEgo s c e) (opening : List ℕ) (recorded : ℕ → List Disc) (pieces : ℕ → List Piece) (over : IsOver s c e ego opening recorded pieces) where
+  pub area_tells : (before after : Option (List ℕ)) (status : Status) → IsPastArea (course_with e.s e.e e.grid s.step) (λ i. length (pieces i)) (λ i. range_of (pieces i)) c.steps status → Tells s c before after status
+  area_tells before after status h = past_tells s c e ego pieces over.pieces_are over.passing before after status h
 
   module _ (within : IsWithinArea (course_with e.s e.e e.grid s.step) (λ i. length (pieces i)) (λ i. range_of (pieces i)) c.steps) where
     -- what can take each output and each beginning can take it all
@@ -247,7 +252,7 @@ module _ (s : Scenario) (c : Command) (e : EgoLine) (ego : HasEgo s c e) (openin
           text_is = append-nil (opening ++ whole_text recorded lists ends);
           appends = app;
           whole = λ done. record { ends = ends; output = output; status_is = is };
-          claims = λ done. over.claims lists ends are hold;
+          claims = λ done. has_claims s c (opening ++ whole_text recorded lists ends) (over.claims lists ends are hold);
         }
 
     pub whole_tells : (before after : Option (List ℕ)) (status : Status) (at : ℕ) (sets : List SetValue)

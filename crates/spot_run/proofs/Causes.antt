@@ -8,24 +8,24 @@ use Rattle.spot_terms.specs.declared.limits.TheConstants.{MOST_BYTES}
 use Rattle.std.specs.Prelude.{IfSome}
 use Rattle.spot_terms.specs.Causes.{Takes}
 use Rattle.spot_terms.specs.Pieces.{Hits}
+use Rattle.spot_terms.specs.Ranges.{IsInRange}
 use Rattle.spot_terms.specs.Statuses.{IsDone}
 use Rattle.spot_terms.specs.Tasks.{ReadsInput, PredictsTraffic, FindsArea}
 use Rattle.spot_terms.specs.declared.command.Command.{Command}
 use Rattle.spot_terms.specs.declared.command.Task.{Task}
-use Rattle.spot_terms.specs.declared.command.Task.TheVariants.{Predict, Area, Replay}
+use Rattle.spot_terms.specs.declared.command.Task.TheVariants.{Predict, Area, Replay, Draw, Sample}
 use Rattle.spot_terms.specs.declared.lines.End.{End}
 use Rattle.spot_terms.specs.declared.lines.End.TheVariants as end
 use Rattle.spot_terms.specs.declared.scenario.Scenario.{Scenario}
 use Rattle.spot_terms.specs.declared.status.Code.{Code}
-use Rattle.spot_terms.specs.declared.status.Code.TheVariants.{NotJson, NotTree, NoProblem, LateProblem, EgoTooFast, NotYet}
+use Rattle.spot_terms.specs.declared.status.Code.TheVariants.{NotJson, NotTree, NoProblem, LateProblem, EgoTooFast}
 use Rattle.spot_terms.specs.declared.status.Which.TheVariants.{TooLong, TooManyCells, LaneTooWide, TooManyLanePolygons, AreaTooWide, TooManyBoxes}
 use Rattle.spot_terms.specs.declared.status.Status.{Status}
 use Rattle.spot_terms.specs.declared.status.Status.TheVariants.{Open, Empty, BadWords, Refused, Limit, ReadFault, WriteFault, Memory}
 use Rattle.spot_tree.proofs.Readings.{one_tree, one_place, tree_is_json, fault_is_json, tree_has_no_fault}
 use Rattle.scenario.proofs.OneRefusal.{one_refusal}
 use Rattle.spot_claims.proofs.AreaCovers.{ends_within}
-use Rattle.spot_claims.specs.Answers.{IsOutside, ExactlyWhere, BadWordsExactly, ReadFaultOnly, TooLongExactly, NotJsonExactly, NotTreeExactly, IsRefusedAt, IsOfCheck, RefusedExactly, ExactlyFor, HasNoProblem, NoProblemExactly, HasLateProblem, LateProblemExactly, HasFastProblem, EgoTooFastExactly, HasManyCells, TooManyCellsExactly, HasWideLane, LaneTooWideExactly, HasManyPairs, TooManyLanePolygonsExactly, HasWideArea, AreaTooWideExactly, HasManyBoxes, TooManyBoxesExactly, WriteFaultOnly, NotYetExactly, EndsEmpty, AreFor, IsKnownAs, IsKnown}
-use Rattle.spot_claims.specs.Built.{IsBuilt, IsBuiltWhole}
+use Rattle.spot_claims.specs.Answers.{IsOutside, ExactlyWhere, BadWordsExactly, ReadFaultOnly, TooLongExactly, NotJsonExactly, NotTreeExactly, IsRefusedAt, IsOfCheck, RefusedExactly, ExactlyFor, HasNoProblem, NoProblemExactly, HasLateProblem, LateProblemExactly, HasFastProblem, EgoTooFastExactly, HasManyCells, TooManyCellsExactly, HasWideLane, LaneTooWideExactly, HasManyPairs, TooManyLanePolygonsExactly, HasWideArea, AreaTooWideExactly, HasManyBoxes, TooManyBoxesExactly, WriteFaultOnly, EndsEmpty, AreFor, IsKnownAs, IsKnown}
 use Rattle.spot_claims.specs.Headline.{Headline}
 use Rattle.spot_claims.specs.Outcomes.{IsAfterReading, ReadsSource, IsAcceptedInput, PassesAll, Fails, Completes, WritesOutput}
 use Rattle.spot_claims.specs.Outputs.{IsOutputOf, IsWritten, status_of}
@@ -34,20 +34,21 @@ use Rattle.spot_claims.specs.Profile.{IsAccepted, IsRefused}
 use Rattle.spot_claims.specs.Runs.{Run, ReadFails, WriteFails}
 use Rattle.spot_claims.specs.Scenario.{IsScenarioOf}
 use Rattle.spot_claims.specs.Stages.{AreNoCommand, AreForReading, IsRead, IsTold, IsInput, IsAccepting}
+use Rattle.spot_claims.specs.Tight.{IsTight}
 use Rattle.spot_claims.specs.Tree.{Element, IsTreeOf, IsNoJson, HasFaultAt}
 use Rattle.spot_run.specs.Loads.{IsReadWhole, Loads, IsLoadFault}
 use Rattle.spot_run.specs.Tells.{Tells}
 use Rattle.spot_run.proofs.Limits.{no_problem_carried, late_carried, fast_carried, cells_carried, wide_carried, many_pairs_carried, wide_area_carried, boxes_carried, no_problem_comes, late_comes, fast_comes, cells_comes, wide_comes, pairs_comes, wide_area_comes, boxes_comes, passes_done}
-use Rattle.spot_run.proofs.Runs.{IsForCommand, read_some, AreAlike, alike, HasLoaded, for_reading, reads_input, input_of, is_input, headline, output}
+use Rattle.spot_run.proofs.Runs.{IsForCommand, read_some, AreAlike, alike, HasLoaded, for_reading, input_of, is_input, headline, output, tight}
 
 -- all that is said of a run
 pub record AllHold (run : Run) : Type 0 where
   pub headline : Headline run
   pub output : WritesOutput run
+  pub tight : IsTight run
   pub source_read : ReadsSource run
   pub known : IsKnown run
   pub bad_words : BadWordsExactly run
-  pub not_yet : NotYetExactly run
   pub read_fault : ReadFaultOnly run
   pub too_long : TooLongExactly run
   pub not_json : NotJsonExactly run
@@ -67,13 +68,16 @@ pub record AllHold (run : Run) : Type 0 where
 -- ---- where a cause can't be
 
 -- neither the answer nor its cause
-never : {Cause : Type 0} {answer status : Status} → status ≢ answer → (Cause → ⊥) → ExactlyWhere Cause answer status
+pub never : {Cause : Type 0} {answer status : Status} → status ≢ answer → (Cause → ⊥) → ExactlyWhere Cause answer status
 never other none = record { only = λ e. absurd (other e); comes = λ cause. absurd (none cause) }
 
-no_headline : (run : Run) → (IsDone run.status → ⊥) → Headline run
+pub no_tight : (run : Run) → (IsDone run.status → ⊥) → IsTight run
+no_tight run none = λ c old stands told before done. absurd (none done)
+
+pub no_headline : (run : Run) → (IsDone run.status → ⊥) → Headline run
 no_headline run none = λ s c text lines r fits same. absurd (none r.done)
 
-no_output : (run : Run) → (IsWritten run.status → ⊥) → WritesOutput run
+pub no_output : (run : Run) → (IsWritten run.status → ⊥) → WritesOutput run
 no_output run none = λ c old stands told before written. absurd (none written)
 
 -- ---- words for no command
@@ -81,6 +85,7 @@ no_output run none = λ c old stands told before written. absurd (none written)
 pub no_command_holds : (run : Run) → run.status ≡ BadWords → AreNoCommand run → AllHold run
 no_command_holds run e nothing = record {
   headline = no_headline run (λ done. subst IsDone e done);
+  tight = no_tight run (λ done. subst IsDone e done);
   output = no_output run (λ written. subst IsWritten e written);
   source_read = record {
     whole = λ bytes told for later. absurd (subst IsAfterReading e later);
@@ -88,12 +93,6 @@ no_command_holds run e nothing = record {
   };
   known = subst (λ status. IsKnownAs status run) (sym e) tt;
   bad_words = record { only = λ f. nothing; comes = λ none. inl e };
-  not_yet = record {
-    only = λ f. absurd (other (Refused NotYet 0) (λ g. cc) f);
-    never = λ c stands whole f. nothing c stands;
-    comes = λ (c, stands, not). absurd (nothing c stands);
-    scenario = λ c stands built told. absurd (nothing c stands);
-  };
   read_fault = λ f. absurd (other ReadFault (λ g. cc) f);
   too_long = λ bytes told. never (other (Limit TooLong 0 67108865) (λ g. cc)) (λ cause. unread cause.0);
   not_json = λ bytes told. never (other (Refused NotJson 0) (λ g. cc)) (λ cause. unread cause.0.reads);
@@ -108,84 +107,29 @@ no_command_holds run e nothing = record {
   area_too_wide = λ step count c stands told. absurd (nothing c stands);
   too_many_boxes = λ step count c stands told. absurd (nothing c stands);
   write_fault = λ f. absurd (other WriteFault (λ g. cc) f);
-  complete = λ c bytes stands built input accepted passes none. absurd (nothing c stands);
+  complete = λ c bytes stands input accepted passes none. absurd (nothing c stands);
 }
   where
     other : (answer : Status) → (BadWords ≡ answer → ⊥) → run.status ≡ answer → ⊥
     other answer not f = not (sym e ∙ f)
 
     unread : AreForReading run → ⊥
-    unread (c, stands, built, reads) = nothing c stands
-
--- ---- words for a task that isn't built
-
-whole_is_built : (task : Task) → IsBuiltWhole task → IsBuilt task
-whole_is_built Predict h = tt
-whole_is_built Area h = tt
-whole_is_built Replay h = tt
-whole_is_built task h = absurd h
-
-not_built_holds : (run : Run) (c : Command) → run.status ≡ Refused NotYet 0 → run.Stands c → ((d : Command) → run.Stands d → d ≡ c) → (IsBuilt c.task → ⊥) → AllHold run
-not_built_holds run c e own only not = record {
-  headline = no_headline run (λ done. subst IsDone e done);
-  output = no_output run (λ written. subst IsWritten e written);
-  source_read = record {
-    whole = λ bytes told for later. absurd (unread for);
-    limit = λ bytes step count told f. absurd (other (Limit TooLong step count) (λ g. cc) f);
-  };
-  known = subst (λ status. IsKnownAs status run) (sym e) refl;
-  bad_words = record { only = λ f. absurd (other BadWords (λ g. cc) f); comes = λ none. absurd (none c own) };
-  not_yet = record {
-    only = λ f. (c, own, λ whole. not (whole_is_built c.task whole));
-    never = λ d stands whole f. unbuilt d stands (whole_is_built d.task whole);
-    comes = λ other. inl e;
-    scenario = λ d stands built told. absurd (unbuilt d stands built);
-  };
-  read_fault = λ f. absurd (other ReadFault (λ g. cc) f);
-  too_long = λ bytes told. never (other (Limit TooLong 0 67108865) (λ g. cc)) (λ cause. unread cause.0);
-  not_json = λ bytes told. never (other (Refused NotJson 0) (λ g. cc)) (λ cause. unread cause.0.reads);
-  not_tree = λ bytes place told. never (other (Refused NotTree place) (λ g. cc)) (λ cause. unread cause.0.reads);
-  refused = λ bytes code place told of. never (other (Refused code place) (code_other code place of)) (λ cause. unread cause.0.reads);
-  no_problem = λ d stands told. never (other (Refused NoProblem 0) (λ g. cc)) (λ (s, accepting, cause). unbuilt d stands accepting.built);
-  late_problem = λ place d stands told. never (other (Refused LateProblem place) (λ g. cc)) (λ (s, accepting, cause). unbuilt d stands accepting.built);
-  ego_too_fast = λ place d stands told. never (other (Refused EgoTooFast place) (λ g. cc)) (λ (s, accepting, cause). unbuilt d stands accepting.built);
-  too_many_cells = λ count d stands told. never (other (Limit TooManyCells 0 count) (λ g. cc)) (λ (s, accepting, cause). unbuilt d stands accepting.built);
-  lane_too_wide = λ id d stands told. never (other (Limit LaneTooWide 0 id) (λ g. cc)) (λ (s, accepting, cause). unbuilt d stands accepting.built);
-  too_many_lane_polygons = λ count d stands told. never (other (Limit TooManyLanePolygons 0 count) (λ g. cc)) (λ (s, accepting, cause). unbuilt d stands accepting.built);
-  area_too_wide = λ step count d stands told. never (other (Limit AreaTooWide step count) (λ g. cc)) (λ (s, accepting, cause). unbuilt d stands accepting.built);
-  too_many_boxes = λ step count d stands told. never (other (Limit TooManyBoxes step count) (λ g. cc)) (λ (s, accepting, cause). unbuilt d stands accepting.built);
-  write_fault = λ f. absurd (other WriteFault (λ g. cc) f);
-  complete = λ d bytes stands built input accepted passes none. absurd (unbuilt d stands built);
-}
-  where
-    other : (answer : Status) → (Refused NotYet 0 ≡ answer → ⊥) → run.status ≡ answer → ⊥
-    other answer ne f = ne (sym e ∙ f)
-
-    unbuilt : (d : Command) → run.Stands d → IsBuilt d.task → ⊥
-    unbuilt d stands built = not (subst (λ (x : Command). IsBuilt x.task) (only d stands) built)
-
-    unread : AreForReading run → ⊥
-    unread (d, stands, built, reads) = unbuilt d stands built
-
-    same_code : (code : Code) (place : ℕ) → Refused NotYet 0 ≡ Refused code place → NotYet ≡ code
-    same_code code place g = cc
-
-    code_other : (code : Code) (place : ℕ) → IsOfCheck code → Refused NotYet 0 ≡ Refused code place → ⊥
-    code_other code place of g = subst IsOfCheck (sym (same_code code place g)) of
+    unread (c, stands, reads) = nothing c stands
 
 -- ---- of the command that was read
 
 -- what is said of it is said of each that the words stand for
-exactly_for : (run : Run) (c : Command) (Cause : Scenario → Command → Type 0) (answer : Status) → IsForCommand run c
+exactly_for : (run : Run) (c : Command) (Cause : Scenario → Command → Type 0) (answer : Status) → IsForCommand run c → ReadsInput c.task
     → ((bytes : List ℕ) → run.told ≡ Some bytes → ExactlyWhere ((s : Scenario) × IsAccepting c run.told s × Cause s c) answer run.status) → ExactlyFor run Cause answer
-exactly_for run c Cause answer for at = λ d stands. subst (λ (x : Command). IsTold x run.told → ExactlyWhere ((s : Scenario) × IsAccepting x run.told s × Cause s x) answer run.status) (sym (for.only d stands))
-    (λ told. let (bytes, is) = told (reads_input c for.built) in at bytes is)
+exactly_for run c Cause answer for reads at = λ d stands. subst (λ (x : Command). IsTold x run.told → ExactlyWhere ((s : Scenario) × IsAccepting x run.told s × Cause s x) answer run.status) (sym (for.only d stands))
+    (λ told. let (bytes, is) = told reads in at bytes is)
 
 -- ---- a fault of loading
 
 -- what loading answered
 pub record HasFailed (run : Run) (c : Command) : Type 0 where
   pub for : IsForCommand run c
+  pub reads : ReadsInput c.task
   pub told : (bytes : List ℕ) → run.told ≡ Some bytes → Loads bytes run.left (Err run.status)
   pub fault : IsLoadFault run.status
   pub read : run.status ≡ ReadFault → ReadFails run
@@ -214,7 +158,6 @@ fault_known run (Refused NotTree place) fault reads = reads
 fault_known run (Refused NoProblem place) fault reads = absurd fault
 fault_known run (Refused LateProblem place) fault reads = absurd fault
 fault_known run (Refused EgoTooFast place) fault reads = absurd fault
-fault_known run (Refused NotYet place) fault reads = absurd fault
 fault_known run (Refused code place) fault reads = (fault, reads)
 fault_known run status fault reads = absurd fault
 
@@ -315,48 +258,43 @@ limit_of bytes left status step count loads e = (subst (λ (x : Status). Loads b
 -- an accepted input leaves only want of memory and a read fault
 accepted_outside : (run : Run) (c : Command) (t : Scenario) → HasFailed run c → IsAccepting c run.told t → IsOutside run.status
 accepted_outside run c t h accepting =
-    let (told, few) = input_of c h.for.built run.told accepting.bytes accepting.input in
+    let (told, few) = input_of c h.reads run.told accepting.bytes accepting.input in
     let (tree, tree_is, scenario) = accepting.scenario in
     outside_at accepting.bytes run.left tree run.status (h.told accepting.bytes told) h.fault few tree_is scenario.accepted
 
 -- a cause of an accepted scenario: the answer is no fault of loading
 after_fault : (run : Run) (c : Command) (Cause : Scenario → Command → Type 0) (answer : Status) → HasFailed run c → (IsLoadFault answer → ⊥) → ExactlyFor run Cause answer
-after_fault run c Cause answer h other = exactly_for run c Cause answer h.for (λ bytes told. record {
+after_fault run c Cause answer h other = exactly_for run c Cause answer h.for h.reads (λ bytes told. record {
   only = λ e. absurd (other (subst IsLoadFault e h.fault));
   comes = λ (t, accepting, cause). inr (accepted_outside run c t h accepting);
 })
 
 -- what is said of the completion of the command that was read is said of each that the words stand for
-complete_for : (run : Run) (c : Command) → IsForCommand run c
+complete_for : (run : Run) (c : Command) → IsForCommand run c → ReadsInput c.task
     → ((bytes : List ℕ) (tree : List Element) → run.told ≡ Some bytes → length bytes ≤ MOST_BYTES → IsTreeOf bytes tree → IsAccepted tree → ((s : Scenario) → IsScenarioOf bytes s → PassesAll s c) → (Fails run → ⊥) → IsDone run.status ⊎ (run.status ≡ Memory))
     → Completes run
-complete_for run c for at = λ d bytes stands. subst (λ (x : Command). IsBuilt x.task → IsInput x run.told bytes → IsAcceptedInput x bytes → ((s : Scenario) → IsScenarioOf bytes s → PassesAll s x) → (Fails run → ⊥) → IsDone run.status ⊎ (run.status ≡ Memory))
+complete_for run c for reads at = λ d bytes stands. subst (λ (x : Command). IsInput x run.told bytes → IsAcceptedInput x bytes → ((s : Scenario) → IsScenarioOf bytes s → PassesAll s x) → (Fails run → ⊥) → IsDone run.status ⊎ (run.status ≡ Memory))
     (sym (for.only d stands))
-    (λ built input accepted passes none.
-    let (told, few) = input_of c for.built run.told bytes input in
-    let (tree, tree_is, is) = accepted (reads_input c for.built) in at bytes tree told few tree_is is passes none)
+    (λ input accepted passes none.
+    let (told, few) = input_of c reads run.told bytes input in
+    let (tree, tree_is, is) = accepted reads in at bytes tree told few tree_is is passes none)
 
 fault_holds : (run : Run) (c : Command) → HasFailed run c → AllHold run
 fault_holds run c h = record {
   headline = no_headline run (fault_not_done run.status h.fault);
+  tight = no_tight run (fault_not_done run.status h.fault);
   output = no_output run (fault_not_written run.status h.fault);
   source_read = record {
     whole = λ bytes told for later. after_whole bytes run.left run.status later (h.told bytes told);
     limit = λ bytes step count told e. limit_of bytes run.left run.status step count (h.told bytes told) e;
   };
-  known = fault_known run run.status h.fault (each_for ReadsInput run c h.for (reads_input c h.for.built));
+  known = fault_known run run.status h.fault (each_for ReadsInput run c h.for h.reads);
   bad_words = record { only = λ e. absurd (subst IsLoadFault e h.fault); comes = λ none. absurd (none c h.for.stands) };
-  not_yet = record {
-    only = λ e. absurd (subst IsLoadFault e h.fault);
-    never = λ d stands whole e. subst IsLoadFault e h.fault;
-    comes = λ (d, stands, not). absurd (not (subst (λ (x : Command). IsBuilt x.task) (sym (h.for.only d stands)) h.for.built));
-    scenario = λ d stands built told. never (λ e. subst IsLoadFault e h.fault) (λ (t, accepting, cause). cause.left_out tt);
-  };
-  read_fault = λ e. (for_reading run c h.for, h.read e);
-  too_long = λ bytes told. too_long_of run bytes run.left run.status (for_reading run c h.for) (h.told bytes told) h.fault;
-  not_json = λ bytes told. not_json_of run bytes run.left run.status (for_reading run c h.for) (h.told bytes told) h.fault;
-  not_tree = λ bytes place told. not_tree_of run bytes place run.left run.status (for_reading run c h.for) (h.told bytes told) h.fault;
-  refused = λ bytes code place told of. refused_of run bytes code place run.left run.status of (for_reading run c h.for) (h.told bytes told) h.fault;
+  read_fault = λ e. (for_reading run c h.for h.reads, h.read e);
+  too_long = λ bytes told. too_long_of run bytes run.left run.status (for_reading run c h.for h.reads) (h.told bytes told) h.fault;
+  not_json = λ bytes told. not_json_of run bytes run.left run.status (for_reading run c h.for h.reads) (h.told bytes told) h.fault;
+  not_tree = λ bytes place told. not_tree_of run bytes place run.left run.status (for_reading run c h.for h.reads) (h.told bytes told) h.fault;
+  refused = λ bytes code place told of. refused_of run bytes code place run.left run.status of (for_reading run c h.for h.reads) (h.told bytes told) h.fault;
   no_problem = after_fault run c HasNoProblem (Refused NoProblem 0) h (λ f. f);
   late_problem = λ place. after_fault run c (HasLateProblem place) (Refused LateProblem place) h (λ f. f);
   ego_too_fast = λ place. after_fault run c (HasFastProblem place) (Refused EgoTooFast place) h (λ f. f);
@@ -366,9 +304,9 @@ fault_holds run c h = record {
   area_too_wide = λ step count. after_fault run c (HasWideArea step count) (Limit AreaTooWide step count) h (λ f. f);
   too_many_boxes = λ step count. after_fault run c (HasManyBoxes step count) (Limit TooManyBoxes step count) h (λ f. f);
   write_fault = λ e. absurd (subst IsLoadFault e h.fault);
-  complete = complete_for run c h.for (λ bytes tree told few tree_is is passes none. elim (outside_at bytes run.left tree run.status (h.told bytes told) h.fault few tree_is is) [
+  complete = complete_for run c h.for h.reads (λ bytes tree told few tree_is is passes none. elim (outside_at bytes run.left tree run.status (h.told bytes told) h.fault few tree_is is) [
     | inl memory ↦ inr memory
-    | inr read ↦ absurd (none (inl (for_reading run c h.for, h.read read)))
+    | inr read ↦ absurd (none (inl (for_reading run c h.for h.reads, h.read read)))
   ]);
 }
 
@@ -377,22 +315,21 @@ fault_holds run c h = record {
 -- the scenario of an accepted input is the one that was loaded
 accepted_alike : (run : Run) (c : Command) (s t : Scenario) → HasLoaded run c s → IsAccepting c run.told t → AreAlike t s
 accepted_alike run c s t h accepting =
-    let told = (input_of c h.for.built run.told accepting.bytes accepting.input).0 in
+    let told = (input_of c h.reads run.told accepting.bytes accepting.input).0 in
     alike accepting.bytes t s accepting.scenario (h.told accepting.bytes told).1
 
 -- the scenario that was loaded is accepted
 accepts : (run : Run) (c : Command) (s : Scenario) (bytes : List ℕ) → HasLoaded run c s → run.told ≡ Some bytes → IsAccepting c run.told s
 accepts run c s bytes h told = record {
-  built = h.for.built;
   bytes = bytes;
-  input = is_input c h.for.built run.told bytes told (h.told bytes told).0.0;
+  input = is_input c h.reads run.told bytes told (h.told bytes told).0.0;
   scenario = (h.told bytes told).1;
 }
 
 -- a cause that is told with the answer, and that leaves no other
 cause_of : (run : Run) (c : Command) (s : Scenario) (Cause : Scenario → Command → Type 0) (answer : Status) → HasLoaded run c s → (Tells s c run.before run.after answer → Cause s c)
     → ((t : Scenario) → AreAlike t s → Cause t c → (run.status ≡ answer) ⊎ IsOutside run.status) → ExactlyFor run Cause answer
-cause_of run c s Cause answer h is comes = exactly_for run c Cause answer h.for (λ bytes told. record {
+cause_of run c s Cause answer h is comes = exactly_for run c Cause answer h.for h.reads (λ bytes told. record {
   only = λ e. (s, accepts run c s bytes h told, is (subst (Tells s c run.before run.after) e h.tells));
   comes = λ (t, accepting, cause). comes t (accepted_alike run c s t h accepting) cause;
 })
@@ -410,25 +347,32 @@ replay_status end.Done = refl
 replay_status end.Open = refl
 replay_status (end.Empty i) = refl
 
-empty_known : (task : Task) (s : Scenario) (c : Command) (text : List ℕ) (ends : End) (i : ℕ) → IsBuilt task → IsOutputOf task s c text ends → Empty i ≡ status_of task ends → EndsEmpty task × (i ≤ c.steps)
-empty_known Predict s c text end.Done i built output e = cc
-empty_known Predict s c text end.Open i built output e = let done : end.Open ≡ end.Done = output.1 in cc
-empty_known Predict s c text (end.Empty j) i built output e = let done : end.Empty j ≡ end.Done = output.1 in cc
-empty_known Area s c text ends i built output e =
+pub draw_status : (ends : End) → status_of Draw ends ≡ status_of Area ends
+draw_status end.Done = refl
+draw_status end.Open = refl
+draw_status (end.Empty i) = refl
+
+empty_known : (task : Task) (s : Scenario) (c : Command) (text : List ℕ) (ends : End) (i : ℕ) → IsOutputOf task s c text ends → Empty i ≡ status_of task ends → EndsEmpty task × (i ≤ c.steps)
+empty_known Predict s c text end.Done i output e = cc
+empty_known Predict s c text end.Open i output e = let done : end.Open ≡ end.Done = output.1 in cc
+empty_known Predict s c text (end.Empty j) i output e = let done : end.Empty j ≡ end.Done = output.1 in cc
+empty_known Area s c text ends i output e =
     let run = output.report.run in
     (tt, ended_within (course_of s c output.report.problem) (λ k. length (output.report.pieces k)) (λ k. Hits (output.report.pieces k)) c.steps output.report.lists ends i run.lists_are e)
-empty_known Replay s c text ends i built output e =
+empty_known Replay s c text ends i output e =
     let run = output.report.run in
     (tt, ended_within (course_of s c output.report.problem) (λ k. length (output.report.pieces k)) (λ k. Hits (output.report.pieces k)) c.steps output.report.lists ends i run.lists_are (e ∙ replay_status ends))
-empty_known task s c text ends i built output e = absurd built
+empty_known Draw s c text ends i output e =
+    (tt, ended_within (course_of s c output.problem) (λ k. length (output.pieces k)) (λ k. Hits (output.pieces k)) c.steps output.lists ends i output.run.lists_are (e ∙ draw_status ends))
+empty_known Sample s c text ends i output e = cc
 
-tells_known : (run : Run) (s : Scenario) (c : Command) (before after : Option (List ℕ)) (status : Status) → IsForCommand run c → Tells s c before after status → IsKnownAs status run
+pub tells_known : (run : Run) (s : Scenario) (c : Command) (before after : Option (List ℕ)) (status : Status) → IsForCommand run c → Tells s c before after status → IsKnownAs status run
 tells_known run s c before after Open for h = tt
 tells_known run s c before after WriteFault for h = tt
 tells_known run s c before after Memory for h = tt
 tells_known run s c before after (Empty i) for h =
     let whole = h.whole tt in
-    let both = empty_known c.task s c h.front whole.ends i for.built whole.output whole.status_is in
+    let both = empty_known c.task s c h.front whole.ends i whole.output whole.status_is in
     (each_for EndsEmpty run c for both.0, λ d stands. subst (λ (x : Command). i ≤ x.steps) (sym (for.only d stands)) both.1)
 tells_known run s c before after (Refused NoProblem place) for h = (h.0, each_for FindsArea run c for h.1.finds)
 tells_known run s c before after (Refused LateProblem place) for h = each_for FindsArea run c for h.finds
@@ -440,37 +384,43 @@ tells_known run s c before after (Limit AreaTooWide step count) for h = each_for
 tells_known run s c before after (Limit TooManyBoxes step count) for h = each_for FindsArea run c for h.passing.finds
 tells_known run s c before after status for h = absurd h
 
+-- an answer that tells what can't be isn't given
+pub other_answer : (run : Run) (s : Scenario) (c : Command) → Tells s c run.before run.after run.status → (answer : Status) → (Tells s c run.before run.after answer → ⊥) → run.status ≡ answer → ⊥
+other_answer run s c tells answer other e = other (subst (Tells s c run.before run.after) e tells)
+
+-- nor that of a check of the tree
+pub no_check : (s : Scenario) (c : Command) (before after : Option (List ℕ)) (code : Code) (place : ℕ) → IsOfCheck code → Tells s c before after (Refused code place) → ⊥
+no_check s c before after NoProblem place of w = of
+no_check s c before after LateProblem place of w = of
+no_check s c before after EgoTooFast place of w = of
+no_check s c before after code place of w = w
+
 loaded_holds : (run : Run) (c : Command) (s : Scenario) → HasLoaded run c s → AllHold run
 loaded_holds run c s h = record {
   headline = headline run c s h;
   output = output run c s h;
+  tight = tight run c s h;
   source_read = record {
     whole = λ bytes told for later. (h.told bytes told).0.1;
     limit = λ bytes step count told e. absurd (not (Limit TooLong step count) (λ w. w) e);
   };
   known = tells_known run s c run.before run.after run.status h.for h.tells;
   bad_words = record { only = λ e. absurd (not BadWords (λ w. w) e); comes = λ none. absurd (none c h.for.stands) };
-  not_yet = record {
-    only = λ e. absurd (not (Refused NotYet 0) (λ w. w) e);
-    never = λ d stands whole e. not (Refused NotYet 0) (λ w. w) e;
-    comes = λ (d, stands, unbuilt). absurd (unbuilt (subst (λ (x : Command). IsBuilt x.task) (sym (h.for.only d stands)) h.for.built));
-    scenario = λ d stands built told. never (not (Refused NotYet 0) (λ w. w)) (λ (t, accepting, cause). cause.left_out tt);
-  };
   read_fault = λ e. absurd (not ReadFault (λ w. w) e);
   too_long = λ bytes told. never (not (Limit TooLong 0 67108865) (λ w. w)) (λ cause. too_many bytes (h.told bytes told).0.0 cause.1);
   not_json = λ bytes told. never (not (Refused NotJson 0) (λ w. w)) (λ cause. let (tree, tree_is, scenario) = (h.told bytes told).1 in tree_is_json bytes tree tree_is cause.1);
   not_tree = λ bytes place told. never (not (Refused NotTree place) (λ w. w)) (λ cause. let (tree, tree_is, scenario) = (h.told bytes told).1 in tree_has_no_fault bytes tree place tree_is cause.1);
-  refused = λ bytes code place told of. never (not (Refused code place) (no_check code place of)) (λ cause. not_refused bytes s code place (h.told bytes told).1 cause.1);
-  no_problem = cause_of run c s HasNoProblem (Refused NoProblem 0) h (λ y. y.1) (λ t same x. no_problem_comes s c h.for.built run.before run.after run.status (no_problem_carried s t c same x) h.tells);
-  late_problem = λ place. cause_of run c s (HasLateProblem place) (Refused LateProblem place) h (λ y. y) (λ t same x. late_comes s c h.for.built run.before run.after run.status place (late_carried s t c same place x) h.tells);
-  ego_too_fast = λ place. cause_of run c s (HasFastProblem place) (Refused EgoTooFast place) h (λ y. y) (λ t same x. fast_comes s c h.for.built run.before run.after run.status place (fast_carried s t c same place x) h.tells);
-  too_many_cells = λ count. cause_of run c s (HasManyCells count) (Limit TooManyCells 0 count) h (λ y. y.1) (λ t same x. cells_comes s c h.for.built run.before run.after run.status count (cells_carried s t c same count x) h.tells);
-  lane_too_wide = λ id. cause_of run c s (HasWideLane id) (Limit LaneTooWide 0 id) h (λ y. y.1) (λ t same x. wide_comes s c h.for.built run.before run.after run.status id (wide_carried s t c same id x) h.tells);
-  too_many_lane_polygons = λ count. cause_of run c s (HasManyPairs count) (Limit TooManyLanePolygons 0 count) h (λ y. y.1) (λ t same x. pairs_comes s c h.for.built run.before run.after run.status count (many_pairs_carried s t c same count x) h.tells);
-  area_too_wide = λ step count. cause_of run c s (HasWideArea step count) (Limit AreaTooWide step count) h (λ y. y.0) (λ t same x. wide_area_comes s c h.for.built run.before run.after run.status step count (wide_area_carried s t c same step count x) h.tells);
-  too_many_boxes = λ step count. cause_of run c s (HasManyBoxes step count) (Limit TooManyBoxes step count) h (λ y. y) (λ t same x. boxes_comes s c h.for.built run.before run.after run.status step count (boxes_carried s t c same step count h.for.built x) h.tells);
+  refused = λ bytes code place told of. never (not (Refused code place) (no_check s c run.before run.after code place of)) (λ cause. not_refused bytes s code place (h.told bytes told).1 cause.1);
+  no_problem = cause_of run c s HasNoProblem (Refused NoProblem 0) h (λ y. y.1) (λ t same x. no_problem_comes s c run.before run.after run.status (no_problem_carried s t c same x) h.tells);
+  late_problem = λ place. cause_of run c s (HasLateProblem place) (Refused LateProblem place) h (λ y. y) (λ t same x. late_comes s c run.before run.after run.status place (late_carried s t c same place x) h.tells);
+  ego_too_fast = λ place. cause_of run c s (HasFastProblem place) (Refused EgoTooFast place) h (λ y. y) (λ t same x. fast_comes s c run.before run.after run.status place (fast_carried s t c same place x) h.tells);
+  too_many_cells = λ count. cause_of run c s (HasManyCells count) (Limit TooManyCells 0 count) h (λ y. y.1) (λ t same x. cells_comes s c run.before run.after run.status count (cells_carried s t c same count x) h.tells);
+  lane_too_wide = λ id. cause_of run c s (HasWideLane id) (Limit LaneTooWide 0 id) h (λ y. y.1) (λ t same x. wide_comes s c run.before run.after run.status id (wide_carried s t c same id x) h.tells);
+  too_many_lane_polygons = λ count. cause_of run c s (HasManyPairs count) (Limit TooManyLanePolygons 0 count) h (λ y. y.1) (λ t same x. pairs_comes s c run.before run.after run.status count (many_pairs_carried s t c same count x) h.tells);
+  area_too_wide = λ step count. cause_of run c s (HasWideArea step count) (Limit AreaTooWide step count) h (λ y. y.0) (λ t same x. wide_area_comes s c run.before run.after run.status step count (wide_area_carried s t c same step count x) h.tells);
+  too_many_boxes = λ step count. cause_of run c s (HasManyBoxes step count) (Limit TooManyBoxes step count) h (λ y. y) (λ t same x. boxes_comes s c run.before run.after run.status step count (boxes_carried s t c same step count x) h.tells);
   write_fault = h.cause;
-  complete = complete_for run c h.for (λ bytes tree told few tree_is is passes none. elim (passes_done s c h.for.built run.before run.after run.status (passes s (h.told bytes told).1) h.tells) [
+  complete = complete_for run c h.for h.reads (λ bytes tree told few tree_is is passes none. elim (passes_done s c run.before run.after run.status (passes s (h.told bytes told).1) h.tells) [
     | inl (inl done) ↦ inl done
     | inl (inr fault) ↦ absurd (none (inr (h.cause fault)))
     | inr memory ↦ inr memory
@@ -478,22 +428,13 @@ loaded_holds run c s h = record {
 }
   where
     not : (answer : Status) → (Tells s c run.before run.after answer → ⊥) → run.status ≡ answer → ⊥
-    not answer other e = other (subst (Tells s c run.before run.after) e h.tells)
-
-    no_check : (code : Code) (place : ℕ) → IsOfCheck code → Tells s c run.before run.after (Refused code place) → ⊥
-    no_check NoProblem place of w = of
-    no_check LateProblem place of w = of
-    no_check EgoTooFast place of w = of
-    no_check code place of w = w
+    not answer other e = other_answer run s c h.tells answer other e
 
 -- ---- by what loading and writing say
 
-pub loaded : (run : Run) (c : Command) (s : Scenario) → IsForCommand run c → ((bytes : List ℕ) → run.told ≡ Some bytes → IsReadWhole bytes run.left × IsScenarioOf bytes s)
+pub loaded : (run : Run) (c : Command) (s : Scenario) → IsForCommand run c → ReadsInput c.task → IsInRange s → ((bytes : List ℕ) → run.told ≡ Some bytes → IsReadWhole bytes run.left × IsScenarioOf bytes s)
     → Tells s c run.before run.after run.status → (run.status ≡ WriteFault → WriteFails run) → AllHold run
-loaded run c s for told tells cause = loaded_holds run c s (record { for = for; told = told; tells = tells; cause = cause })
+loaded run c s for reads range told tells cause = loaded_holds run c s (record { for = for; reads = reads; range = range; told = told; tells = tells; cause = cause })
 
-pub failed : (run : Run) (c : Command) → IsForCommand run c → ((bytes : List ℕ) → run.told ≡ Some bytes → Loads bytes run.left (Err run.status)) → IsLoadFault run.status → (run.status ≡ ReadFault → ReadFails run) → AllHold run
-failed run c for told fault read = fault_holds run c (record { for = for; told = told; fault = fault; read = read })
-
-pub not_built : (run : Run) (o : Option Command) (c : Command) → run.status ≡ Refused NotYet 0 → o ≡ Some c → IfSome o (λ d. run.Stands d) → IfSome o (λ c. (d : Command) → run.Stands d → d ≡ c) → (IsBuilt c.task → ⊥) → AllHold run
-not_built run o c e read stands only not = not_built_holds run c e (read_some run.Stands o c read stands) (read_some (λ (x : Command). (d : Command) → run.Stands d → d ≡ x) o c read only) not
+pub failed : (run : Run) (c : Command) → IsForCommand run c → ReadsInput c.task → ((bytes : List ℕ) → run.told ≡ Some bytes → Loads bytes run.left (Err run.status)) → IsLoadFault run.status → (run.status ≡ ReadFault → ReadFails run) → AllHold run
+failed run c for reads told fault read = fault_holds run c (record { for = for; reads = reads; told = told; fault = fault; read = read })

@@ -10,10 +10,10 @@ use Rattle.spot_terms.specs.Participants.{starting, PairsSumTo, HasPairs}
 use Rattle.spot_terms.specs.Pieces.{Piece, range_of, disc}
 use Rattle.spot_terms.specs.RowBoxes.{IsTooWideAt, IsNarrow, IsAreaTooWide, row_boxes_in, row_boxes}
 use Rattle.spot_terms.specs.Statuses.{IsDone}
-use Rattle.spot_terms.specs.Tasks.{FindsArea}
+use Rattle.spot_terms.specs.Tasks.{PredictsTraffic}
 use Rattle.spot_terms.specs.declared.command.Command.{Command}
 use Rattle.spot_terms.specs.declared.command.Task.{Task}
-use Rattle.spot_terms.specs.declared.command.Task.TheVariants.{Predict, Area, Replay}
+use Rattle.spot_terms.specs.declared.command.Task.TheVariants.{Replay}
 use Rattle.spot_terms.specs.declared.limits.TheConstants.{MOST_CELLS, MOST_LANE_POLYGONS, MOST_ROW_BOXES}
 use Rattle.spot_terms.specs.declared.plain.Disc.{Disc}
 use Rattle.spot_terms.specs.declared.scenario.Problem.{Problem}
@@ -29,11 +29,10 @@ use Rattle.spot_terms.proofs.Orders.{below_or_at_least}
 use Rattle.spot_terms.proofs.Unique.{some_one}
 use Rattle.spot_claims.specs.Answers.{IsOutside, HasNoProblem, HasLateProblem, HasFastProblem, HasManyCells, HasWideLane, HasManyPairs, HasWideArea, HasManyBoxes}
 use Rattle.spot_claims.specs.AreaOf.{ArePieces, HasTooManyBoxesOver}
-use Rattle.spot_claims.specs.Built.{IsBuilt}
 use Rattle.spot_claims.specs.Outcomes.{PassesAll}
 use Rattle.spot_claims.specs.Problems.{ego_radius, chosen, IsChosen, IsSlowEnough, course_of, PassesProblem}
 use Rattle.spot_claims.specs.Stages.{IsWithinTraffic, PassesToNetwork, PassesToArea}
-use Rattle.spot_claims.proofs.OneReport.{area_pieces, replay_pieces, area_same, replay_same}
+use Rattle.spot_claims.proofs.OneReport.{traffic_pieces, pieces_of_traffic, replay_pieces, traffic_same, replay_same}
 use Rattle.participants.proofs.OneNumber.{pairs_are_one}
 use Rattle.spot_run.specs.Tells.{HasSomePieces, Tells}
 use Rattle.spot_run.proofs.Runs.{AreAlike, discs_same}
@@ -71,14 +70,9 @@ pairs_carried s t steps n same h =
     subst (λ ls. PairsSumTo ls s.step steps (starting s.movers) n) same.lanes
     (subst (λ k. PairsSumTo t.lanelets.entries k steps (starting s.movers) n) same.step (subst (λ ms. PairsSumTo t.lanelets.entries t.step steps (starting ms) n) same.movers h))
 
-task_either : (task : Task) → IsBuilt task → FindsArea task → (task ≡ Area) ⊎ (task ≡ Replay)
-task_either Predict built finds = absurd finds
-task_either Area built finds = inl refl
-task_either Replay built finds = inr refl
-task_either task built finds = absurd built
-
-pub pieces_area : (s : Scenario) (c : Command) (pieces : ℕ → List Piece) → c.task ≡ Area → (occupants : List Occupant) × AreOccupants s c.steps occupants × ((i : ℕ) → i ≤ c.steps → pieces i ≡ predicted_pieces s occupants i) → ArePieces s c pieces
-pieces_area s c pieces e h = rw e h
+task_either : (task : Task) → PredictsTraffic task ⊎ (task ≡ Replay)
+task_either Replay = inr refl
+task_either task = inl tt
 
 pub pieces_replay : (s : Scenario) (c : Command) (pieces : ℕ → List Piece) → c.task ≡ Replay → ((i : ℕ) → i ≤ c.steps → pieces i ≡ recorded_pieces s (ego_radius c) i) → ArePieces s c pieces
 pieces_replay s c pieces e h = rw e h
@@ -100,7 +94,7 @@ module _ (s t : Scenario) (c : Command) (same : AreAlike t s) where
   is_chosen p h = subst (λ ps. chosen c.problem ps ≡ Some p) same.problems h
 
   passes_carried : PassesToNetwork t c → PassesToNetwork s c
-  passes_carried h = record { problem = λ finds. let (p, is, zero, slow) = h.problem finds in (p, is_chosen p is, zero, slow); built = tt }
+  passes_carried h = record { problem = λ finds. let (p, is, zero, slow) = h.problem finds in (p, is_chosen p is, zero, slow) }
 
   traffic_carried : IsWithinTraffic t c → IsWithinTraffic s c
   traffic_carried h = record { network = subst HasNetwork same.lanes h.network; pairs = λ n pairs. h.pairs n (pairs_carried t s c.steps n (turned t s same) pairs) }
@@ -108,17 +102,17 @@ module _ (s t : Scenario) (c : Command) (same : AreAlike t s) where
   area_carried : (p : Problem) → PassesToArea t c p → PassesToArea s c p
   area_carried p h = record { finds = h.finds; passing = passes_carried h.passing; chosen = is_chosen p h.chosen; traffic = λ predicts. traffic_carried (h.traffic predicts) }
 
-  pieces_carried : IsBuilt c.task → FindsArea c.task → (pieces : ℕ → List Piece) → ArePieces t c pieces → ArePieces s c pieces
-  pieces_carried built finds pieces h =
-      elim (task_either c.task built finds) [
-        | inl task ↦ predicted_over pieces task h
+  pieces_carried : (pieces : ℕ → List Piece) → ArePieces t c pieces → ArePieces s c pieces
+  pieces_carried pieces h =
+      elim (task_either c.task) [
+        | inl predicts ↦ predicted_over pieces predicts h
         | inr task ↦ recorded_over pieces task h
       ]
     where
-      predicted_over : (pieces : ℕ → List Piece) → c.task ≡ Area → ArePieces t c pieces → ArePieces s c pieces
-      predicted_over pieces task h =
-          let (occupants, are, is) = area_pieces t c pieces task h in
-          pieces_area s c pieces task (occupants, occupants_same s t c.steps occupants same are, λ i within. is i within ∙ predicted_same s t occupants i same)
+      predicted_over : (pieces : ℕ → List Piece) → PredictsTraffic c.task → ArePieces t c pieces → ArePieces s c pieces
+      predicted_over pieces predicts h =
+          let (occupants, are, is) = traffic_pieces t c pieces predicts h in
+          pieces_of_traffic s c pieces occupants predicts (occupants_same s t c.steps occupants same are) (λ i within. is i within ∙ predicted_same s t occupants i same)
 
       recorded_over : (pieces : ℕ → List Piece) → c.task ≡ Replay → ArePieces t c pieces → ArePieces s c pieces
       recorded_over pieces task h = pieces_replay s c pieces task (λ i within. replay_pieces t c pieces task h i within ∙ ap (λ (ds : List Disc). map (λ d. disc d.p d.r) ds) (discs_same t s (ego_radius c) i same))
@@ -144,12 +138,12 @@ module _ (s t : Scenario) (c : Command) (same : AreAlike t s) where
   pub wide_area_carried : (step count : ℕ) → HasWideArea step count t c → HasWideArea step count s c
   wide_area_carried step count h = record { problem = h.problem; passing = area_carried h.problem h.passing; wide = subst (λ (course : Course). IsAreaTooWide course c.steps step count) (course_same s t c h.problem same) h.wide }
 
-  pub boxes_carried : (step count : ℕ) → IsBuilt c.task → HasManyBoxes step count t c → HasManyBoxes step count s c
-  boxes_carried step count built h = record {
+  pub boxes_carried : (step count : ℕ) → HasManyBoxes step count t c → HasManyBoxes step count s c
+  boxes_carried step count h = record {
     problem = h.problem;
     passing = area_carried h.problem h.passing;
     pieces = h.pieces;
-    pieces_are = pieces_carried built h.passing.finds h.pieces h.pieces_are;
+    pieces_are = pieces_carried h.pieces h.pieces_are;
     narrow = subst (λ (course : Course). IsNarrow course c.steps) (course_same s t c h.problem same) h.narrow;
     many = subst (λ (course : Course). HasTooManyBoxesOver course c.steps h.pieces step count) (course_same s t c h.problem same) h.many;
   }
@@ -225,19 +219,19 @@ module _ (s : Scenario) (c : Command) where
       let same : step ≡ other = order_one step other (λ less. y.wide.least step count less wide.wide) (λ less. wide.least other number less y.wide.wide) in
       (same, width_one (course_of s c y.problem) other count number (subst (λ (i : ℕ). IsTooWideAt (course_of s c y.problem) i count) same wide.wide) y.wide.wide)
 
-  pieces_one : (ps qs : ℕ → List Piece) → IsBuilt c.task → FindsArea c.task → ArePieces s c ps → ArePieces s c qs → (i : ℕ) → i ≤ c.steps → ps i ≡ qs i
-  pieces_one ps qs built finds h k i within = elim (task_either c.task built finds) [
-    | inl task ↦ area_same s c ps qs task h k i within
+  pieces_one : (ps qs : ℕ → List Piece) → ArePieces s c ps → ArePieces s c qs → (i : ℕ) → i ≤ c.steps → ps i ≡ qs i
+  pieces_one ps qs h k i within = elim (task_either c.task) [
+    | inl predicts ↦ traffic_same s c ps qs predicts h k i within
     | inr task ↦ replay_same s c ps qs task h k i within
   ]
 
-  boxes_one : (step other count number : ℕ) → IsBuilt c.task → HasManyBoxes step count s c → HasManyBoxes other number s c → (step ≡ other) × (count ≡ number)
-  boxes_one step other count number built x y =
+  boxes_one : (step other count number : ℕ) → HasManyBoxes step count s c → HasManyBoxes other number s c → (step ≡ other) × (count ≡ number)
+  boxes_one step other count number x y =
       let one : x.problem ≡ y.problem = some_one (chosen c.problem s.problems) x.problem y.problem x.passing.chosen y.passing.chosen in
       let many = subst (λ (q : Problem). HasTooManyBoxesOver (course_of s c q) c.steps x.pieces step count) one x.many in
       let course = course_of s c y.problem in
       let boxes : (i : ℕ) → i ≤ c.steps → over course x.pieces i ≡ over course y.pieces i
-      = λ i within. ap (λ (ps : List Piece). row_boxes_in course.w course.g (box_at course i) (length ps) (range_of ps)) (pieces_one x.pieces y.pieces built x.passing.finds x.pieces_are y.pieces_are i within) in
+      = λ i within. ap (λ (ps : List Piece). row_boxes_in course.w course.g (box_at course i) (length ps) (range_of ps)) (pieces_one x.pieces y.pieces x.pieces_are y.pieces_are i within) in
       let same : step ≡ other = order_one step other
       (λ less. more (boxes step many.within) many.boxes_are many.many (y.many.least step less))
       (λ less. more (sym (boxes other y.many.within)) y.many.boxes_are y.many.many (many.least other less)) in
@@ -264,7 +258,7 @@ same_limit which step a b e f = cc
 abbrev pub IsWrittenOut : Status → Type 0
 IsWrittenOut status = IsDone status ⊎ (status ≡ WriteFault)
 
-module _ (s : Scenario) (c : Command) (built : IsBuilt c.task) (before after : Option (List ℕ)) where
+module _ (s : Scenario) (c : Command) (before after : Option (List ℕ)) where
   pub no_problem_comes : (status : Status) → HasNoProblem s c → Tells s c before after status → (status ≡ Refused NoProblem 0) ⊎ IsOutside status
   no_problem_comes Open x y = absurd (no_problem_passes s c x y.passes.passing.problem)
   no_problem_comes (Empty i) x y = absurd (no_problem_passes s c x y.passes.passing.problem)
@@ -382,7 +376,7 @@ module _ (s : Scenario) (c : Command) (built : IsBuilt c.task) (before after : O
   boxes_comes (Limit LaneTooWide i n) step count x y = absurd (none_wide s.lanelets.entries n (x.passing.traffic y.1.predicts).network y.1.first)
   boxes_comes (Limit TooManyLanePolygons i n) step count x y = absurd (pairs_few s c n y.1 (x.passing.traffic y.1.predicts))
   boxes_comes (Limit AreaTooWide i n) step count x y = absurd (wide_narrow s c i n x.problem y.0 x.passing.chosen x.narrow)
-  boxes_comes (Limit TooManyBoxes i n) step count x y = inl (let both = boxes_one s c i step n count built y x in same_step TooManyBoxes i step n count both.0 both.1)
+  boxes_comes (Limit TooManyBoxes i n) step count x y = inl (let both = boxes_one s c i step n count y x in same_step TooManyBoxes i step n count both.0 both.1)
   boxes_comes status step count x y = absurd y
 
   -- where all stages are passed, the output is written, or memory is wanted

@@ -23,6 +23,7 @@ use Rattle.spot_run.specs.Lines.{traffic_lines, prediction_lines}
 use Rattle.spot_run.specs.Tells.{TakesFor, ClaimsIn, Tells}
 use Rattle.spot_run.specs.Writes.{report_of, IsPredicted, IsPastLimit, TakesPrediction, WritesPrediction}
 use Rattle.spot_run.proofs.Alone.{IsOther, AreOthers}
+use Rattle.spot_run.proofs.Claims.{has_claims}
 use Rattle.spot_run.proofs.Covers.{traffic_covers}
 use Rattle.spot_run.proofs.Fits.{fits_report}
 use Rattle.spot_run.proofs.Reports.{predict_report}
@@ -53,7 +54,7 @@ module _ (s : Scenario) (c : Command) (task : c.task ≡ Predict) where
   finds_none h = subst FindsArea task h
 
   passes : PassesToNetwork s c
-  passes = record { problem = λ finds. absurd (finds_none finds); built = tt }
+  passes = record { problem = λ finds. absurd (finds_none finds) }
 
   passes_all : (o : Occupancies) → IsPredicted s c.steps o → PassesAll s c
   passes_all o predicted = record { passing = passes; within = record { traffic = λ _. within_traffic s c o predicted; area = λ finds. absurd (finds_none finds) } }
@@ -98,7 +99,7 @@ module _ (s : Scenario) (c : Command) (task : c.task ≡ Predict) where
       text_is = append-nil (report_of s c.steps o);
       appends = app;
       whole = λ done. record { ends = end.Done; output = is_output o predicted; status_is = sym opens };
-      claims = λ done. claims_in o ids predicted;
+      claims = λ done. has_claims s c (report_of s c.steps o) (claims_in o ids predicted);
     }
     predict_tells before after WriteFault ids (o, predicted, (front, back, text, app)) = record {
       passes = passes_all o predicted;

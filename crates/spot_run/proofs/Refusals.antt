@@ -1,5 +1,5 @@
 -- Of a tree: a check's code, and what loading says of it.
-use Rattle.std.proofs.Common.{◌≡◌, ◌∙◌, ℕ, zero, suc, ◌≤◌, List, [], ◌∷◌, length, Option, Some, None, Result, Ok, Err, sym, subst}
+use Rattle.std.proofs.Common.{◌≡◌, ◌∙◌, ℕ, zero, suc, ◌≤◌, List, [], ◌∷◌, length, Option, Some, None, Result, Ok, Err, refl, sym, subst}
 use Rattle.spot_terms.specs.declared.limits.TheConstants.{MOST_BYTES}
 use Rattle.std.specs.Prelude.{IfOk, IfErr}
 use Rattle.std.specs.List.{AllByRecursion}
@@ -10,9 +10,10 @@ use Rattle.spot_terms.specs.declared.status.Code.{Code}
 use Rattle.spot_terms.specs.declared.status.Code.TheVariants.{NotJson, NotTree}
 use Rattle.spot_terms.specs.declared.status.Status.{Status}
 use Rattle.spot_terms.specs.declared.status.Status.TheVariants.{Refused, Memory}
+use Rattle.spot_tree.proofs.Readings.{one_tree}
 use Rattle.spot_claims.specs.Tree.{Element, IsTreeOf}
 use Rattle.spot_claims.specs.Scenario.{IsScenario}
-use Rattle.spot_claims.specs.Profile.{Line, Check, code_of, profile, IsRefused}
+use Rattle.spot_claims.specs.Profile.{Line, Check, code_of, profile, IsAccepted, IsRefused}
 use Rattle.spot_claims.specs.Answers.{IsOfCheck}
 use Rattle.std.specs.declared.vec.Vec.{Vec}
 use Rattle.std.specs.declared.alloc.Global.{Global}
@@ -44,6 +45,18 @@ none_of tree place code k h = (k, h)
 
 pub refused_none : (tree : List Element) (place : ℕ) (code : Code) → IsRefused tree place code → HasNone tree (Refused code place)
 refused_none tree place code h = none_of tree place code (refused_code tree place code h) h
+
+-- an accepted tree has a scenario, but where memory is wanted
+only_memory : (tree : List Element) (status : Status) → IsAccepted tree → HasNone tree status → status ≡ Memory
+only_memory tree Memory accepted h = refl
+only_memory tree (Refused NotJson place) accepted h = absurd h
+only_memory tree (Refused NotTree place) accepted h = absurd h
+only_memory tree (Refused code place) accepted h = absurd (accepted place h.1.number code h.1.fails)
+only_memory tree status accepted h = absurd h
+
+pub accepted_memory : (bytes : List ℕ) (tree other : List Element) (result : Result Scenario Status) → IsTreeOf bytes tree → IsAccepted tree → IsTreeOf bytes other → IfErr result (λ status. HasNone other status) → IfErr result (λ status. status ≡ Memory)
+accepted_memory bytes tree other (Ok s) tree_is accepted other_is h = tt
+accepted_memory bytes tree other (Err status) tree_is accepted other_is h = only_memory other status (subst IsAccepted (one_tree bytes tree other tree_is other_is) accepted) h
 
 -- ---- loading
 

@@ -24,7 +24,7 @@ use Rattle.spot_terms.proofs.Distinct.{from_filter}
 use Rattle.spot_terms.proofs.ListLemmas.{includes_either, all_included}
 use Rattle.spot_terms.proofs.Members.{in_map, in_flat_map}
 use Rattle.base_sets.specs.Values.{course_with}
-use Rattle.replay_sets.specs.Discs.{Recording, discs_at, pieces_at}
+use Rattle.replay_sets.specs.Discs.{DiscLists, discs_at, pieces_at}
 use Rattle.text_report.specs.Values.{ego_value}
 use Rattle.text_report.specs.declared.ego_line.EgoLine.{EgoLine}
 use Rattle.spot_claims.specs.AreaOf.{ArePieces, step_lines, lines_from, area_lines, lines_so_far, IsReplayReport, IsReplayBeginning, FollowSoFar, AreListsSoFar}
@@ -101,7 +101,7 @@ module _ (course : Course) (count : ℕ → ℕ) (Hits : ℕ → ℕ → Pt → 
 pub small_radius : (c : Command) → IsCommandInRange c → ego_radius c ≤ 150_000_000
 small_radius c range = let l = range.ego_length.1 in omega (arith, l)
 
-module _ (s : Scenario) (c : Command) (e : EgoLine) (r : Recording) (ego : HasEgo s c e) (recorded : IsRecorded s c r) (range : IsInRange s) (few : IsCommandInRange c) where
+module _ (s : Scenario) (c : Command) (e : EgoLine) (r : DiscLists) (ego : HasEgo s c e) (recorded : IsRecorded s c r) (range : IsInRange s) (few : IsCommandInRange c) where
   pub can_open : CanOpen s (length r - 1) 40_000_000_000_000 e c.steps
   can_open = record {
     start = ego.is.start;
@@ -116,7 +116,7 @@ module _ (s : Scenario) (c : Command) (e : EgoLine) (r : Recording) (ego : HasEg
 
 -- ---- the ego of the command, and the recorded traffic of the scenario
 
-module _ (s : Scenario) (c : Command) (task : c.task ≡ Replay) (e : EgoLine) (r : Recording) (ego : HasEgo s c e) (recorded : IsRecorded s c r) (range : IsInRange s) (states : AllByRecursion AreStatesInRange s.movers) (few : IsCommandInRange c) where
+module _ (s : Scenario) (c : Command) (task : c.task ≡ Replay) (e : EgoLine) (r : DiscLists) (ego : HasEgo s c e) (recorded : IsRecorded s c r) (range : IsInRange s) (states : AllByRecursion AreStatesInRange s.movers) (few : IsCommandInRange c) where
   pieces_are : ArePieces s c (pieces_at r)
   pieces_are = pieces_replay s c (pieces_at r) task (λ i within. ap (λ (ds : List Disc). map (λ d. disc d.p d.r) ds) (recorded.discs_are i within))
 

@@ -8,13 +8,13 @@ use Rattle.spot_terms.specs.Lists.{Includes}
 use Rattle.spot_terms.specs.Motions.{State}
 use Rattle.spot_terms.specs.OccupiedPieces.{discs}
 use Rattle.spot_terms.specs.Participants.{FollowsLanes}
-use Rattle.spot_terms.specs.Ranges.{IsCommandInRange}
+use Rattle.spot_terms.specs.Ranges.{IsCommandInRange, IsInRange}
 use Rattle.spot_terms.specs.Report.{Line, EgoValue, head_line, time_line}
 use Rattle.spot_terms.specs.Statuses.{IsDone}
 use Rattle.spot_terms.specs.Tasks.{ReadsInput}
 use Rattle.spot_terms.specs.declared.command.Command.{Command}
 use Rattle.spot_terms.specs.declared.command.Task.{Task}
-use Rattle.spot_terms.specs.declared.command.Task.TheVariants.{Predict, Area, Replay}
+use Rattle.spot_terms.specs.declared.command.Task.TheVariants.{Predict, Area, Replay, Draw, Sample}
 use Rattle.spot_terms.specs.declared.limits.TheConstants.{MOST_BYTES}
 use Rattle.spot_terms.specs.declared.lines.Mode.{Mode}
 use Rattle.spot_terms.specs.declared.lines.Mode.TheVariants as mode
@@ -24,11 +24,9 @@ use Rattle.spot_terms.specs.declared.scenario.Mover.{Mover}
 use Rattle.spot_terms.specs.declared.scenario.Scenario.{Scenario}
 use Rattle.spot_terms.specs.declared.status.Status.{Status}
 use Rattle.spot_terms.specs.declared.status.Status.TheVariants.{Open, Empty, WriteFault}
-use Rattle.spot_terms.proofs.ReportText.{texts_tell}
 use Rattle.spot_terms.proofs.Unique.{some_injective}
 use Rattle.spot_tree.proofs.Readings.{one_tree}
 use Rattle.scenario.proofs.Unique.{scenario_is_one}
-use Rattle.spot_claims.specs.Built.{IsBuilt, IsBuiltWhole}
 use Rattle.spot_claims.specs.EgoClaims.{IsEgoLine, IsOccupied, HasEntered, HasCollided, IsStruck, IsStruckIn, CoversEgo}
 use Rattle.spot_claims.specs.Headline.{BeginsWith, ClaimsOf, Claims, Headline}
 use Rattle.spot_claims.specs.Outcomes.{MayBeInput, PassesAll, TakesOutput, WritesOutput}
@@ -38,86 +36,64 @@ use Rattle.spot_claims.specs.Problems.{ego_radius, chosen}
 use Rattle.spot_claims.specs.Runs.{Run, WriteFails}
 use Rattle.spot_claims.specs.Scenario.{IsScenario, IsScenarioOf}
 use Rattle.spot_claims.specs.Stages.{AreForReading, IsInputOf, IsInput}
+use Rattle.spot_claims.specs.Tight.{IsTight}
 use Rattle.spot_run.specs.Loads.{IsReadWhole}
 use Rattle.spot_run.specs.Tells.{TakesFor, HasWritten, Tells}
+use Rattle.spot_run.proofs.Tight.{output_tight}
 
--- ---- words that are for a command that is built
+-- ---- words that are for a command
 
--- the words stand for this command and no other, and its task is built
+-- the words stand for this command and no other
 pub record IsForCommand (run : Run) (c : Command) : Type 0 where
   pub stands : run.Stands c
   pub only : (d : Command) → run.Stands d → d ≡ c
   pub range : IsCommandInRange c
-  pub built : IsBuilt c.task
 
 pub read_some : (W : Command → Type 0) (o : Option Command) (c : Command) → o ≡ Some c → IfSome o (λ d. W d) → W c
 read_some W o c e h = subst (λ (x : Option Command). IfSome x (λ d. W d)) e h
 
 -- from what reading the words says
 pub for_command : (run : Run) (o : Option Command) (c : Command) → o ≡ Some c → IfSome o (λ d. run.Stands d) → IfSome o (λ c. (d : Command) → run.Stands d → d ≡ c) → IfSome o (λ d. IsCommandInRange d)
-    → IsBuilt c.task → IsForCommand run c
-for_command run o c e stands only range built = record {
+    → IsForCommand run c
+for_command run o c e stands only range = record {
   stands = read_some run.Stands o c e stands;
   only = read_some (λ (x : Command). (d : Command) → run.Stands d → d ≡ x) o c e only;
   range = read_some IsCommandInRange o c e range;
-  built = built;
 }
 
 pub read_none : (X : Type 0) (o : Option Command) → o ≡ None → IfNone o X → X
 read_none X o e h = subst (λ (x : Option Command). IfNone x X) e h
 
-task_reads : (task : Task) → IsBuilt task → ReadsInput task
-task_reads Predict h = tt
-task_reads Area h = tt
-task_reads Replay h = tt
-task_reads task h = absurd h
+pub only_sample : (task : Task) → (ReadsInput task → ⊥) → task ≡ Sample
+only_sample Sample none = refl
+only_sample task none = absurd (none tt)
 
-task_whole : (task : Task) → IsBuilt task → IsBuiltWhole task
-task_whole Predict h = tt
-task_whole Area h = tt
-task_whole Replay h = tt
-task_whole task h = absurd h
+task_input : (task : Task) (c : Command) (told : Option (List ℕ)) (bytes : List ℕ) → ReadsInput task → IsInputOf task c told bytes → (told ≡ Some bytes) × (length bytes ≤ MOST_BYTES)
+task_input Sample c told bytes reads h = absurd reads
+task_input task c told bytes reads h = h
 
-task_input : (task : Task) (c : Command) (told : Option (List ℕ)) (bytes : List ℕ) → IsBuilt task → IsInputOf task c told bytes → (told ≡ Some bytes) × (length bytes ≤ MOST_BYTES)
-task_input Predict c told bytes built h = h
-task_input Area c told bytes built h = h
-task_input Replay c told bytes built h = h
-task_input task c told bytes built h = absurd built
+input_task : (task : Task) (c : Command) (told : Option (List ℕ)) (bytes : List ℕ) → ReadsInput task → told ≡ Some bytes → length bytes ≤ MOST_BYTES → IsInputOf task c told bytes
+input_task Sample c told bytes reads e few = absurd reads
+input_task task c told bytes reads e few = (e, few)
 
-input_task : (task : Task) (c : Command) (told : Option (List ℕ)) (bytes : List ℕ) → IsBuilt task → told ≡ Some bytes → length bytes ≤ MOST_BYTES → IsInputOf task c told bytes
-input_task Predict c told bytes built e few = (e, few)
-input_task Area c told bytes built e few = (e, few)
-input_task Replay c told bytes built e few = (e, few)
-input_task task c told bytes built e few = absurd built
+may_task : (task : Task) (c : Command) (told : Option (List ℕ)) (bytes : List ℕ) → ReadsInput task → ((all : List ℕ) → told ≡ Some all → bytes ≡ all) → MayBeInput task c told bytes
+may_task Sample c told bytes reads same = absurd reads
+may_task task c None bytes reads same = tt
+may_task task c (Some all) bytes reads same = same all refl
 
-may_task : (task : Task) (c : Command) (told : Option (List ℕ)) (bytes : List ℕ) → IsBuilt task → ((all : List ℕ) → told ≡ Some all → bytes ≡ all) → MayBeInput task c told bytes
-may_task Predict c None bytes built same = tt
-may_task Predict c (Some all) bytes built same = same all refl
-may_task Area c None bytes built same = tt
-may_task Area c (Some all) bytes built same = same all refl
-may_task Replay c None bytes built same = tt
-may_task Replay c (Some all) bytes built same = same all refl
-may_task task c told bytes built same = absurd built
-
-module _ (c : Command) (built : IsBuilt c.task) where
-  pub reads_input : ReadsInput c.task
-  reads_input = task_reads c.task built
-
-  pub is_built_whole : IsBuiltWhole c.task
-  is_built_whole = task_whole c.task built
-
+module _ (c : Command) (reads : ReadsInput c.task) where
   pub input_of : (told : Option (List ℕ)) (bytes : List ℕ) → IsInput c told bytes → (told ≡ Some bytes) × (length bytes ≤ MOST_BYTES)
-  input_of told bytes h = task_input c.task c told bytes built h
+  input_of told bytes h = task_input c.task c told bytes reads h
 
   pub is_input : (told : Option (List ℕ)) (bytes : List ℕ) → told ≡ Some bytes → length bytes ≤ MOST_BYTES → IsInput c told bytes
-  is_input told bytes e few = input_task c.task c told bytes built e few
+  is_input told bytes e few = input_task c.task c told bytes reads e few
 
-pub for_reading : (run : Run) (c : Command) → IsForCommand run c → AreForReading run
-for_reading run c h = (c, h.stands, h.built, reads_input c h.built)
+pub for_reading : (run : Run) (c : Command) → IsForCommand run c → ReadsInput c.task → AreForReading run
+for_reading run c h reads = (c, h.stands, reads)
 
 -- ---- what was appended
 
-appended : (before after : Option (List ℕ)) (old added : List ℕ) → before ≡ Some old → Appends before after added → (new : List ℕ) × (after ≡ Some new) × (new ≡ old ++ added)
+pub appended : (before after : Option (List ℕ)) (old added : List ℕ) → before ≡ Some old → Appends before after added → (new : List ℕ) × (after ≡ Some new) × (new ≡ old ++ added)
 appended None after old added e h = cc
 appended (Some xs) None old added e h = absurd h
 appended (Some xs) (Some ys) old added e h = let same : xs ≡ old = cc in (ys, refl, h ∙ ap (λ (x : List ℕ). x ++ added) same)
@@ -149,6 +125,8 @@ alike bytes s t (tree, tree_is, is) (other, other_is, also) =
 -- the scenario that was loaded, and what was written
 pub record HasLoaded (run : Run) (c : Command) (s : Scenario) : Type 0 where
   pub for : IsForCommand run c
+  pub reads : ReadsInput c.task
+  pub range : IsInRange s
   pub told : (bytes : List ℕ) → run.told ≡ Some bytes → IsReadWhole bytes run.left × IsScenarioOf bytes s
   pub tells : Tells s c run.before run.after run.status
   pub cause : run.status ≡ WriteFault → WriteFails run
@@ -263,13 +241,14 @@ begins : (s t : Scenario) (c : Command) (mode : Mode) (lines : List Line) → Ar
 begins s t c mode lines same h = record { rest = h.rest; lines_are = h.lines_are ∙ ap (λ (k : ℕ). head_line mode ∷ time_line k c.steps ∷ h.rest) same.step }
 
 -- what the lines claim of a scenario they claim of another one of the bytes
-claims_carried : (task : Task) (s t : Scenario) (c : Command) (lines : List Line) → IsBuilt task → c.task ≡ task → AreAlike s t → ClaimsOf task s c lines → ClaimsOf task t c lines
-claims_carried Predict s t c lines built is same h = (begins s t c mode.Predict lines same h.0, carried s t c lines same h.1)
-claims_carried Area s t c lines built is same h = (begins s t c mode.Area lines same h.0, carried s t c lines same h.1, ego_carried s t c lines same (entered_over s t c lines same is) h.2)
-claims_carried Replay s t c lines built is same h = (begins s t c mode.Replay lines same h.0, ego_carried s t c lines same (collided_over s t c lines same is) h.1)
-claims_carried task s t c lines built is same h = absurd built
+claims_carried : (task : Task) (s t : Scenario) (c : Command) (lines : List Line) → c.task ≡ task → AreAlike s t → ClaimsOf task s c lines → ClaimsOf task t c lines
+claims_carried Predict s t c lines is same h = (begins s t c mode.Predict lines same h.0, carried s t c lines same h.1)
+claims_carried Area s t c lines is same h = (begins s t c mode.Area lines same h.0, carried s t c lines same h.1, ego_carried s t c lines same (entered_over s t c lines same is) h.2)
+claims_carried Replay s t c lines is same h = (begins s t c mode.Replay lines same h.0, ego_carried s t c lines same (collided_over s t c lines same is) h.1)
+claims_carried Draw s t c lines is same h = tt
+claims_carried Sample s t c lines is same h = tt
 
-done_written : (s : Scenario) (c : Command) (before after : Option (List ℕ)) (status : Status) → IsDone status → Tells s c before after status → HasWritten s c before after status
+pub done_written : (s : Scenario) (c : Command) (before after : Option (List ℕ)) (status : Status) → IsDone status → Tells s c before after status → HasWritten s c before after status
 done_written s c before after Open done h = h
 done_written s c before after (Empty i) done h = h
 done_written s c before after status done h = absurd done
@@ -278,14 +257,13 @@ pub headline : (run : Run) (c : Command) (s : Scenario) → HasLoaded run c s �
 headline run c s h = λ t d text lines r fits same.
     let one : d ≡ c = h.for.only d r.stands in
     let w = done_written s c run.before run.after run.status r.done h.tells in
-    let claims = w.claims r.done in
-    let lines_are : claims.lines ≡ lines = texts_tell claims.lines lines (sym claims.text_is ∙ sym (same_text run.before run.after r.old text w.front r.before_is r.after_is w.appends) ∙ same) in
+    let mine : Claims s c lines = w.claims r.done lines (sym (same_text run.before run.after r.old text w.front r.before_is r.after_is w.appends) ∙ same) in
     let both : AreAlike s t = alike r.bytes s t (h.told r.bytes r.told_is).1 r.scenario_is in
-    subst (λ (x : Command). Claims t x lines) (sym one) (claims_carried c.task s t c lines h.for.built refl both (subst (Claims s c) lines_are claims.claims))
+    subst (λ (x : Command). Claims t x lines) (sym one) (claims_carried c.task s t c lines refl both mine)
 
 -- ---- the output
 
-written_of : (s : Scenario) (c : Command) (before after : Option (List ℕ)) (status : Status) → IsWritten status → Tells s c before after status → HasWritten s c before after status
+pub written_of : (s : Scenario) (c : Command) (before after : Option (List ℕ)) (status : Status) → IsWritten status → Tells s c before after status → HasWritten s c before after status
 written_of s c before after Open written h = h
 written_of s c before after (Empty i) written h = h
 written_of s c before after WriteFault written h = h
@@ -293,7 +271,7 @@ written_of s c before after status written h = absurd written
 
 pub output : (run : Run) (c : Command) (s : Scenario) → HasLoaded run c s → WritesOutput run
 output run c s h = λ d old stands told before_is written.
-    let (bytes, told_is) = told (subst (λ (x : Command). ReadsInput x.task) (sym (h.for.only d stands)) (reads_input c h.for.built)) in
+    let (bytes, told_is) = told (subst (λ (x : Command). ReadsInput x.task) (sym (h.for.only d stands)) h.reads) in
     let w = written_of s c run.before run.after run.status written h.tells in
     let (new, after_is, grown) = appended run.before run.after old w.front before_is w.appends in (
       new,
@@ -302,7 +280,7 @@ output run c s h = λ d old stands told before_is written.
         command = c;
         stands = h.for.stands;
         bytes = bytes;
-        input = is_input c h.for.built run.told bytes told_is (h.told bytes told_is).0.0;
+        input = is_input c h.reads run.told bytes told_is (h.told bytes told_is).0.0;
         scenario = s;
         scenario_is = (h.told bytes told_is).1;
         within = w.passes.within;
@@ -316,11 +294,34 @@ output run c s h = λ d old stands told before_is written.
       },
     )
 
+-- ---- and it is tight
+
+pub tight : (run : Run) (c : Command) (s : Scenario) → HasLoaded run c s → IsTight run
+tight run c s h = λ d old stands told before_is done.
+    let (bytes, told_is) = told (subst (λ (x : Command). ReadsInput x.task) (sym (h.for.only d stands)) h.reads) in
+    let w = done_written s c run.before run.after run.status done h.tells in
+    let whole = w.whole done in
+    let (new, after_is, grown) = appended run.before run.after old w.front before_is w.appends in (
+      new,
+      after_is,
+      record {
+        command = c;
+        stands = h.for.stands;
+        bytes = bytes;
+        input = is_input c h.reads run.told bytes told_is (h.told bytes told_is).0.0;
+        scenario = s;
+        scenario_is = (h.told bytes told_is).1;
+        text = w.front;
+        appended = grown;
+        tight = output_tight s c h.range h.for.range w.passes w.front whole.ends whole.output;
+      },
+    )
+
 -- ---- the room in the sink
 
-pub room : (run : Run) (can : ℕ → Type 0) (s : Scenario) (c : Command) (bytes : List ℕ) → TakesOutput run.Stands run.told can → IsForCommand run c → ((b : List ℕ) → run.told ≡ Some b → IsScenarioOf b s)
+pub room : (run : Run) (can : ℕ → Type 0) (s : Scenario) (c : Command) (bytes : List ℕ) → TakesOutput run.Stands run.told can → IsForCommand run c → ReadsInput c.task → ((b : List ℕ) → run.told ≡ Some b → IsScenarioOf b s)
     → IsScenarioOf bytes s → TakesFor s c can
-room run can s c bytes takes for known of = λ text passes output. go run.told refl text passes output
+room run can s c bytes takes for reads known of = λ text passes output. go run.told refl text passes output
   where
     may : (told : Option (List ℕ)) → run.told ≡ told → (b : List ℕ) × IsScenarioOf b s × ((all : List ℕ) → run.told ≡ Some all → b ≡ all)
     may None e = (bytes, of, λ all is. let none : None ≡ Some all = sym e ∙ is in cc)
@@ -329,4 +330,4 @@ room run can s c bytes takes for known of = λ text passes output. go run.told r
     go : (told : Option (List ℕ)) → run.told ≡ told → (text : List ℕ) → PassesAll s c → IsOutputSoFar s c text → can (length text)
     go told e text passes output =
         let (b, scenario, same) = may told e in
-        takes c b s text for.stands for.built (may_task c.task c run.told b for.built same) scenario passes output
+        takes c b s text for.stands (may_task c.task c run.told b reads same) scenario passes output

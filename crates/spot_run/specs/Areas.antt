@@ -22,7 +22,7 @@ use Rattle.spot_terms.specs.declared.status.Status.TheVariants.{Open, Empty, Lim
 use Rattle.spot_terms.specs.declared.status.Which.TheVariants.{AreaTooWide, TooManyBoxes}
 use Rattle.spot_io.specs.declared.traits.Sink.{Ghosts as Sink}
 use Rattle.base_sets.specs.Values.{AreBounds, AreTicks, IsEgoStart, IsGrid}
-use Rattle.replay_sets.specs.Discs.{Recording, discs_at, pieces_at as discs_pieces}
+use Rattle.replay_sets.specs.Discs.{DiscLists, discs_at, pieces_at as discs_pieces}
 use Rattle.participants.specs.Pieces.{pieces_at}
 use Rattle.participants.specs.Predictions.{Occupancies}
 use Rattle.text_report.specs.Values.{ego_value}
@@ -44,17 +44,17 @@ range_at o i p = range_of (pieces_at o i) p
 
 -- ---- the discs of recorded traffic
 
-abbrev pub discs_count : Recording → ℕ → ℕ
+abbrev pub discs_count : DiscLists → ℕ → ℕ
 discs_count r i = length (discs_pieces r i)
 
-abbrev pub discs_hits : Recording → ℕ → ℕ → Pt → Type 0
+abbrev pub discs_hits : DiscLists → ℕ → ℕ → Pt → Type 0
 discs_hits r i p q = Hits (discs_pieces r i) p q
 
-abbrev pub discs_range : Recording → ℕ → ℕ → ℤ × ℤ
+abbrev pub discs_range : DiscLists → ℕ → ℕ → ℤ × ℤ
 discs_range r i p = range_of (discs_pieces r i) p
 
 -- the discs of each step up to the last one, for the ego of the command
-pub record IsRecorded (s : Scenario) (c : Command) (r : Recording) : Type 0 where
+pub record IsRecorded (s : Scenario) (c : Command) (r : DiscLists) : Type 0 where
   pub long : length r ≡ c.steps + 1
   pub discs_are : (i : ℕ) → i ≤ c.steps → discs_at r i ≡ discs s (ego_radius c) i
 

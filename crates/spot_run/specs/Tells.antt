@@ -6,6 +6,8 @@ use Rattle.spot_terms.specs.Report.{Line, report_text}
 use Rattle.spot_terms.specs.Statuses.{IsDone}
 use Rattle.spot_terms.specs.Tasks.{FindsArea}
 use Rattle.spot_terms.specs.declared.command.Command.{Command}
+use Rattle.spot_terms.specs.declared.command.Task.{Task}
+use Rattle.spot_terms.specs.declared.command.Task.TheVariants.{Draw, Sample}
 use Rattle.spot_terms.specs.declared.scenario.Scenario.{Scenario}
 use Rattle.spot_terms.specs.declared.status.Code.TheVariants.{NoProblem, LateProblem, EgoTooFast}
 use Rattle.spot_terms.specs.declared.status.Status.{Status}
@@ -21,11 +23,15 @@ use Rattle.spot_claims.specs.Outputs.{IsOutputSoFar, IsWhole}
 abbrev pub TakesFor : Scenario → Command → (ℕ → Type 0) → Type 0
 TakesFor s c Takes = (text : List ℕ) → PassesAll s c → IsOutputSoFar s c text → Takes (length text)
 
--- the lines of the text claim what they should
+-- these lines have the text, and claim what they should
 pub record ClaimsIn (s : Scenario) (c : Command) (text : List ℕ) : Type 0 where
   pub lines : List Line
   pub text_is : text ≡ report_text lines
   pub claims : Claims s c lines
+
+-- all lines that have the text claim what they should
+abbrev pub HasClaims : Scenario → Command → List ℕ → Type 0
+HasClaims s c text = (lines : List Line) → text ≡ report_text lines → Claims s c lines
 
 -- there are pieces for each step
 abbrev pub HasSomePieces : Scenario → Command → Type 0
@@ -42,7 +48,7 @@ pub record HasWritten (s : Scenario) (c : Command) (before after : Option (List 
   pub text_is : front ++ back ≡ text
   pub appends : Appends before after front
   pub whole : IsDone status → IsWhole status s c front
-  pub claims : IsDone status → ClaimsIn s c front
+  pub claims : IsDone status → HasClaims s c front
 
 -- what was written, or why nothing was: want of memory may come at any time
 abbrev pub Tells : Scenario → Command → Option (List ℕ) → Option (List ℕ) → Status → Type 0

@@ -2,10 +2,12 @@
 #![tactic(auto)]
 
 mod area;
+mod draw;
 mod load;
 mod replay;
 mod report;
 mod run;
+mod sample;
 mod traffic;
 
 pub use run::run_spot;

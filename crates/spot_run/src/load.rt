@@ -16,7 +16,7 @@ use spot_tree::{Tree, TreeFault, read_tree};
 use std::alloc::Global;
 
 // The scenario of a tree, or the status that says why there is none.
-fn scenario_of(alloc: Global, tree: &Tree) -> Result<Scenario, Status>
+pub(crate) fn scenario_of(alloc: Global, tree: &Tree) -> Result<Scenario, Status>
     ensures scenario { IfOk result (λ s. IsScenario tree.now s) }
     ensures range { IfOk result (λ s. IsInRange s) }
     ensures ids { IfOk result (λ s. HaveUniqueIds s) }

@@ -6,24 +6,27 @@ ghost use Rattle.lanelets.specs.Buildable.{AreBuildable};
 ghost use Rattle.spot_terms.specs.Causes.{Rose};
 ghost use Rattle.spot_terms.specs.Ids.{HaveUniqueIds};
 ghost use Rattle.spot_terms.specs.Ranges.{AreStatesInRange, IsCommandInRange, IsFew, IsInRange};
+ghost use Rattle.spot_terms.specs.Tasks.{ReadsInput};
 ghost use Rattle.spot_run.specs.RunOf.{run_of};
 ghost use Rattle.spot_run.specs.Tells.{TakesFor, Tells};
 ghost use Rattle.spot_run.specs.Writes.{TakesPrediction, WritesPrediction};
 ghost use Rattle.spot_words.specs.Words.{StandsFor};
-ghost use Rattle.spot_claims.specs.Answers.{AreaTooWideExactly, BadWordsExactly, EgoTooFastExactly, IsKnown, LaneTooWideExactly, LateProblemExactly, NoProblemExactly, NotJsonExactly, NotTreeExactly, NotYetExactly, ReadFaultOnly, RefusedExactly, TooLongExactly, TooManyBoxesExactly, TooManyCellsExactly, TooManyLanePolygonsExactly, WriteFaultOnly};
-ghost use Rattle.spot_claims.specs.Built.{IsBuilt};
+ghost use Rattle.spot_claims.specs.Answers.{AreaTooWideExactly, BadWordsExactly, EgoTooFastExactly, IsKnown, LaneTooWideExactly, LateProblemExactly, NoProblemExactly, NotJsonExactly, NotTreeExactly, ReadFaultOnly, RefusedExactly, TooLongExactly, TooManyBoxesExactly, TooManyCellsExactly, TooManyLanePolygonsExactly, WriteFaultOnly};
 ghost use Rattle.spot_claims.specs.Headline.{Headline};
 ghost use Rattle.spot_claims.specs.Outcomes.{Completes, ReadsSource, TakesOutput, WritesOutput};
 ghost use Rattle.spot_claims.specs.Outputs.{IsWritten};
 ghost use Rattle.spot_claims.specs.Stages.{AreForReading};
+ghost use Rattle.spot_claims.specs.Tight.{IsTight};
 
 use crate::area::write_area_report;
+use crate::draw::write_drawing;
 use crate::load::load;
 use crate::replay::write_replay;
 use crate::report::write_prediction;
+use crate::sample::write_sample;
 use crate::traffic::prediction_of;
 use spot_io::{Sink, Source};
-use spot_terms::{Code, Command, MOST_STEPS, Scenario, Status, Task};
+use spot_terms::{Command, MOST_STEPS, Scenario, Status, Task};
 use spot_words::read_words;
 use std::alloc::Global;
 
@@ -48,17 +51,17 @@ fn write_report<K: Sink>(alloc: Global, scenario: &Scenario, steps: u32, sink: &
     }
 }
 
-// Whether a task is built.
-fn is_built(task: Task) -> bool
-    ensures { IsTrue result ↔ IsBuilt task }
+// Whether a task reads its scenario from the source.
+fn reads_input(task: Task) -> bool
+    ensures { IsTrue result ↔ ReadsInput task }
 {
     match task {
-        Task::Predict | Task::Area | Task::Replay => true,
-        Task::Draw | Task::Sample => false,
+        Task::Predict | Task::Area | Task::Replay | Task::Draw => true,
+        Task::Sample => false,
     }
 }
 
-// Writes the output of a command whose task is built.
+// Writes the output of a command that reads its scenario.
 fn write_output<K: Sink>(
     alloc: Global,
     scenario: &Scenario,
@@ -71,7 +74,7 @@ fn write_output<K: Sink>(
     requires few { IsFew scenario.now }
     requires states { AllByRecursion AreStatesInRange scenario.now.movers }
     requires command { IsCommandInRange command.now }
-    requires built { IsBuilt command.now.task }
+    requires reads { ReadsInput command.now.task }
     requires room { TakesFor scenario.now command.now (λ n. K.takes sink.old n) }
     ensures tells { Tells scenario.now command.now (K.written sink.old) (K.written sink.new) result }
     ensures kept { (IsWritten result → ⊥) → sink.new ≡ sink.old }
@@ -82,17 +85,18 @@ fn write_output<K: Sink>(
         Task::Predict => write_report(alloc, scenario, command.steps, sink),
         Task::Area => write_area_report(alloc, scenario, command, sink),
         Task::Replay => write_replay(alloc, scenario, command, sink),
-        Task::Draw | Task::Sample => Status::Refused(Code::NotYet, 0),
+        Task::Draw => write_drawing(alloc, scenario, command, sink),
+        Task::Sample => unreachable!(),
     }
 }
 
 /// Reads a scenario and writes the report that the words ask for. The first word is the program's own name.
 ///
-/// What is built so far are the modes `predict`, `area` and `replay`; every other mode is refused as `NotYet`. All values of a
-/// prediction are computed before the first byte is written, and so is recorded traffic; all memory for the steps of an area is taken before it:
-/// the base sets of a step are written before the next step is computed. Writing takes no memory. After a refusal, a limit,
-/// a read fault or want of memory nothing was written; after a write fault a front of the report was, or of what it begins
-/// with.
+/// The modes are `predict`, `area`, `replay`, `draw` and `sample`. A sample makes its own scenario: the source isn't read
+/// then. All values of a prediction, of a drawing and of a summary are computed before the first byte is written, and so is
+/// recorded traffic; all memory for the steps of an area is taken before it, and the base sets of a step are written before
+/// the next step is computed. Writing takes no memory. After a refusal, a limit, a read fault or want of memory nothing was
+/// written; after a write fault a front of the output was, or of what it begins with.
 pub fn run_spot<S: Source, K: Sink>(
     alloc: Global,
     words: &Vec<String>,
@@ -109,6 +113,9 @@ pub fn run_spot<S: Source, K: Sink>(
     ensures output { WritesOutput (run_of words.now.items S.Source source.old source.new K.Sink sink.old sink.new result) }
     ensures kept { (IsWritten result → ⊥) → sink.new ≡ sink.old }
 
+    // Nothing that is printed is wider than it has to be.
+    ensures tight { IsTight (run_of words.now.items S.Source source.old source.new K.Sink sink.old sink.new result) }
+
     // The source is read to its end, or not at all.
     ensures source_read { ReadsSource (run_of words.now.items S.Source source.old source.new K.Sink sink.old sink.new result) }
     ensures source_kept { (AreForReading (run_of words.now.items S.Source source.old source.new K.Sink sink.old sink.new result) → ⊥) → source.new ≡ source.old }
@@ -120,7 +127,6 @@ pub fn run_spot<S: Source, K: Sink>(
     // When each answer comes.
     ensures known { IsKnown (run_of words.now.items S.Source source.old source.new K.Sink sink.old sink.new result) }
     ensures bad_words { BadWordsExactly (run_of words.now.items S.Source source.old source.new K.Sink sink.old sink.new result) }
-    ensures not_yet { NotYetExactly (run_of words.now.items S.Source source.old source.new K.Sink sink.old sink.new result) }
     ensures read_fault { ReadFaultOnly (run_of words.now.items S.Source source.old source.new K.Sink sink.old sink.new result) }
     ensures too_long { TooLongExactly (run_of words.now.items S.Source source.old source.new K.Sink sink.old sink.new result) }
     ensures not_json { NotJsonExactly (run_of words.now.items S.Source source.old source.new K.Sink sink.old sink.new result) }
@@ -144,8 +150,8 @@ pub fn run_spot<S: Source, K: Sink>(
         Ok(None) => return Status::BadWords,
         Err(_) => return Status::Memory,
     };
-    if !is_built(command.task) {
-        return Status::Refused(Code::NotYet, 0);
+    if !reads_input(command.task) {
+        return write_sample(alloc, &command, sink);
     }
     match load(alloc, source) {
         Ok(scenario) => write_output(alloc, &scenario, &command, sink),

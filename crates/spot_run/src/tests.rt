@@ -1,3 +1,5 @@
+mod faults;
+
 use super::*;
 use spot_io::{MemSink, mem_sink, mem_source};
 use std::alloc::Global;
@@ -5,13 +7,6 @@ use std::test::Fail;
 
 const CIRCLE: &[u8] =
     br#"["commonRoad",{"commonRoadVersion":"2020a","timeStepSize":"0.1"},["dynamicObstacle",{"id":"1"},["type","car"],["shape",["circle",["radius","1"]]],["initialState",["position",["point",["x","0"],["y","0"]]],["orientation",["exact","0"]],["velocity",["exact","10"]],["time",["exact","0"]]]]]"#;
-
-const ONE_STEP: &[u8] = b"spot 1 predict
-time 100 1
-mover 1 free 8 70000 10002 1000000 0 0 9999 10001 -1 1
-occ 1 0 2040100 2469463 1040100 1414213 1000000 1414213 1040100 2469463
-done
-";
 
 const TWO_STEPS: &[u8] = b"spot 1 predict
 time 100 2
@@ -114,6 +109,37 @@ count 1 4
 open
 ";
 
+const LEAST_SAMPLE: &[u8] = b"sample 1 1 0 3060
+cells 200 lanes 0
+sets 2
+open
+";
+
+const DRAWN_FROM_REST: &[u8] =
+    b"<svg xmlns=\"http://www.w3.org/2000/svg\" viewBox=\"-40100 -40100 80201 80201\">
+<rect class=\"free\" x=\"-40100\" y=\"1\" width=\"40100\" height=\"40100\"/>
+<rect class=\"free\" x=\"-40100\" y=\"-40100\" width=\"40100\" height=\"40101\"/>
+<rect class=\"free\" x=\"0\" y=\"1\" width=\"40101\" height=\"40100\"/>
+<rect class=\"free\" x=\"0\" y=\"-40100\" width=\"40101\" height=\"40101\"/>
+</svg>
+";
+
+const DRAWN_INSIDE: &[u8] = b"<svg xmlns=\"http://www.w3.org/2000/svg\" viewBox=\"0 0 1 1\">
+<rect class=\"occ\" x=\"-50000000\" y=\"-50000000\" width=\"100000001\" height=\"100000001\"/>
+</svg>
+";
+
+const BEHIND_FOLLOWER: &[u8] =
+    br#"["commonRoad",{"commonRoadVersion":"2020a","timeStepSize":"0.1"},["lanelet",{"id":"1"},["leftBound",["point",["x","0"],["y","4"]],["point",["x","2"],["y","4"]]],["rightBound",["point",["x","0"],["y","0"]],["point",["x","2"],["y","0"]]]],["dynamicObstacle",{"id":"1"},["type","car"],["shape",["circle",["radius","1"]]],["initialState",["position",["point",["x","1"],["y","2"]]],["orientation",["exact","0"]],["velocity",["exact","10"]],["time",["exact","0"]]]],["planningProblem",{"id":"1"},["initialState",["position",["point",["x","9"],["y","2"]]],["orientation",["exact","0"]],["velocity",["exact","0"]],["time",["exact","0"]]]]]"#;
+
+const DRAWN_BEHIND_FOLLOWER: &[u8] =
+    b"<svg xmlns=\"http://www.w3.org/2000/svg\" viewBox=\"8959900 -2040100 80201 80201\">
+<polygon class=\"occ\" points=\"-1000000,414213 -414213,1000000 2414213,1000000 3000000,414213 3000000,-4414213 2414213,-5000000 -414213,-5000000 -1000000,-4414213\"/>
+<rect class=\"free\" x=\"8959900\" y=\"-1999999\" width=\"80201\" height=\"40100\"/>
+<rect class=\"free\" x=\"8959900\" y=\"-2040100\" width=\"80201\" height=\"40101\"/>
+</svg>
+";
+
 fn words(alloc: Global, line: &[&str]) -> Result<Vec<String>, Fail> {
     let mut words = Vec::new(alloc);
     for word in line {
@@ -132,7 +158,7 @@ fn run(
 ) -> Result<(Status, MemSink), Fail> {
     let words = words(alloc, line)?;
     let mut source = mem_source(alloc, bytes, 16, read_fails)?;
-    let mut sink = mem_sink(alloc, 1000, 16, write_fails)?;
+    let mut sink = mem_sink(alloc, 2000, 16, write_fails)?;
     let status = run_spot(alloc, &words, &mut source, &mut sink);
     Ok((status, sink))
 }
@@ -141,7 +167,7 @@ fn run(
 fn run_by_bytes(alloc: Global, line: &[&str], bytes: &[u8]) -> Result<(Status, MemSink), Fail> {
     let words = words(alloc, line)?;
     let mut source = mem_source(alloc, bytes, 1, &[])?;
-    let mut sink = mem_sink(alloc, 1000, 1, &[])?;
+    let mut sink = mem_sink(alloc, 2000, 1, &[])?;
     let status = run_spot(alloc, &words, &mut source, &mut sink);
     Ok((status, sink))
 }
@@ -189,26 +215,6 @@ fn a_limit_writes_nothing(rt: HostRuntime) -> Result<(), Fail> {
 }
 
 #[test]
-fn a_write_fault_leaves_a_front(rt: HostRuntime) -> Result<(), Fail> {
-    let line = ["spot", "predict", "--steps", "1"];
-    let (status, sink) = run(rt.alloc(), &line, CIRCLE, &[], &[4])?;
-    assert_eq!(rt; status, Status::WriteFault);
-    assert!(rt; sink.bytes.len() <= 48);
-    assert!(rt; ONE_STEP.starts_with(sink.bytes.as_slice()));
-    Ok(())
-}
-
-#[test]
-fn a_read_fault_writes_nothing(rt: HostRuntime) -> Result<(), Fail> {
-    let line = ["spot", "predict", "--steps", "1"];
-    let (status, sink) = run(rt.alloc(), &line, CIRCLE, &[2], &[])?;
-    assert_eq!(rt; status, Status::ReadFault);
-    assert!(rt; sink.bytes.is_empty());
-    assert_eq!(rt; sink.calls, 0);
-    Ok(())
-}
-
-#[test]
 fn what_is_no_report_says_why(rt: HostRuntime) -> Result<(), Fail> {
     let predict = ["spot", "predict"];
     let (status, sink) = run(rt.alloc(), &predict, b"", &[], &[])?;
@@ -218,8 +224,6 @@ fn what_is_no_report_says_why(rt: HostRuntime) -> Result<(), Fail> {
     assert_eq!(rt; status, Status::Refused(Code::NotTree, 1));
     let (status, _) = run(rt.alloc(), &predict, br#"["commonRoad"]"#, &[], &[])?;
     assert_eq!(rt; status, Status::Refused(Code::Version, 0));
-    let (status, _) = run(rt.alloc(), &["spot", "draw"], CIRCLE, &[], &[])?;
-    assert_eq!(rt; status, Status::Refused(Code::NotYet, 0));
     let (status, _) = run(rt.alloc(), &["spot", "fly"], CIRCLE, &[], &[])?;
     assert_eq!(rt; status, Status::BadWords);
     Ok(())
@@ -271,17 +275,6 @@ fn an_area_that_is_too_wide_writes_nothing(rt: HostRuntime) -> Result<(), Fail> 
 }
 
 #[test]
-fn a_write_fault_in_a_step_leaves_a_front(rt: HostRuntime) -> Result<(), Fail> {
-    let line = ["spot", "area", "--steps", "1"];
-    let (status, sink) = run(rt.alloc(), &line, AT_REST, &[], &[20])?;
-    assert_eq!(rt; status, Status::WriteFault);
-    assert!(rt; sink.bytes.len() > 100);
-    assert!(rt; sink.bytes.len() < FROM_REST.len());
-    assert!(rt; FROM_REST.starts_with(sink.bytes.as_slice()));
-    Ok(())
-}
-
-#[test]
 fn who_stands_in_a_recorded_disc_has_no_area(rt: HostRuntime) -> Result<(), Fail> {
     let line = ["spot", "replay", "--steps", "5"];
     let (status, sink) = run(rt.alloc(), &line, INSIDE, &[], &[])?;
@@ -311,6 +304,62 @@ fn a_replay_that_is_refused_writes_nothing(rt: HostRuntime) -> Result<(), Fail> 
     let line = ["spot", "replay", "--steps", "10", "--ego-speed", "100"];
     let (status, sink) = run(rt.alloc(), &line, LONG_STEPS, &[], &[])?;
     assert_eq!(rt; status, Status::Limit(Which::AreaTooWide, 7, 78_012));
+    assert!(rt; sink.bytes.is_empty());
+    Ok(())
+}
+
+#[test]
+fn a_sample_reads_nothing(rt: HostRuntime) -> Result<(), Fail> {
+    let line = [
+        "spot", "sample", "--seed", "1", "--lanes", "1", "--movers", "0", "--steps", "1",
+    ];
+    let words = words(rt.alloc(), &line)?;
+    let mut source = mem_source(rt.alloc(), CIRCLE, 16, &[1])?;
+    let mut sink = mem_sink(rt.alloc(), 1000, 16, &[])?;
+    let status = run_spot(rt.alloc(), &words, &mut source, &mut sink);
+    assert_eq!(rt; status, Status::Open);
+    assert_eq!(rt; sink.bytes.as_slice(), LEAST_SAMPLE);
+    assert_eq!(rt; source.at, 0);
+    assert_eq!(rt; source.calls, 0);
+    Ok(())
+}
+
+#[test]
+fn the_last_step_is_drawn(rt: HostRuntime) -> Result<(), Fail> {
+    let line = ["spot", "draw", "--steps", "1"];
+    let (status, sink) = run(rt.alloc(), &line, AT_REST, &[], &[])?;
+    assert_eq!(rt; status, Status::Open);
+    assert_eq!(rt; sink.bytes.as_slice(), DRAWN_FROM_REST);
+    let (status, sink) = run_by_bytes(rt.alloc(), &line, BEHIND_FOLLOWER)?;
+    assert_eq!(rt; status, Status::Open);
+    assert_eq!(rt; sink.bytes.as_slice(), DRAWN_BEHIND_FOLLOWER);
+    let (status, sink) = run(rt.alloc(), &["spot", "draw"], INSIDE, &[], &[])?;
+    assert_eq!(rt; status, Status::Empty(0));
+    assert_eq!(rt; sink.bytes.as_slice(), DRAWN_INSIDE);
+    Ok(())
+}
+
+#[test]
+fn a_drawing_that_is_refused_writes_nothing(rt: HostRuntime) -> Result<(), Fail> {
+    let (status, sink) = run(rt.alloc(), &["spot", "draw"], CIRCLE, &[], &[])?;
+    assert_eq!(rt; status, Status::Refused(Code::NoProblem, 0));
+    assert!(rt; sink.bytes.is_empty());
+    let line = ["spot", "draw", "--steps", "10", "--ego-speed", "100"];
+    let (status, sink) = run(rt.alloc(), &line, LONG_STEPS, &[], &[])?;
+    assert_eq!(rt; status, Status::Limit(Which::AreaTooWide, 7, 78_012));
+    assert!(rt; sink.bytes.is_empty());
+    Ok(())
+}
+
+#[test]
+fn a_sample_that_is_refused_writes_nothing(rt: HostRuntime) -> Result<(), Fail> {
+    let fast = ["spot", "sample", "--ego-speed", "29"];
+    let (status, sink) = run(rt.alloc(), &fast, b"", &[], &[])?;
+    assert_eq!(rt; status, Status::Refused(Code::EgoTooFast, 1_092));
+    assert!(rt; sink.bytes.is_empty());
+    let other = ["spot", "sample", "--problem", "2"];
+    let (status, sink) = run(rt.alloc(), &other, b"", &[], &[])?;
+    assert_eq!(rt; status, Status::Refused(Code::NoProblem, 0));
     assert!(rt; sink.bytes.is_empty());
     Ok(())
 }

@@ -22,7 +22,6 @@ pub enum Code {
     NoProblem,
     LateProblem,
     EgoTooFast,
-    NotYet,
 }
 
 /// The limits of a run.

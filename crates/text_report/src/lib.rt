@@ -6,14 +6,18 @@
 
 mod ego_line;
 mod line_buffer;
+mod set_lines;
+mod summary;
 mod writers;
 
 pub use ego_line::EgoLine;
 pub use line_buffer::LineBuffer;
+pub use set_lines::SetLines;
 pub use spot_terms::{End, Mode, MoverLine};
+pub use summary::{Summary, write_summary};
 pub use writers::{
     write_count, write_disc, write_ego, write_end, write_fixed, write_head, write_lane, write_late,
-    write_mover, write_occ, write_set, write_time,
+    write_mover, write_occ, write_time,
 };
 
 #[cfg(test)]

@@ -235,20 +235,10 @@ fn put_ego(line: &mut LineBuffer, e: &EgoLine)
     line.end();
 }
 
-/// The line of a base set: its step, its column and its row; then of its polygon of x, and of that of y, how many corners
-/// it has, and each of them: a place in µm and a speed in mm/s.
-///
-/// At `SinkFault` the sink's count of faults rose in this call, and a front of the line was appended.
-pub fn write_set<K: Sink>(sink: &mut K, step: u32, b: &BaseSet) -> Result<(), SinkFault>
-    requires { K.takes sink.old (length (line_text (set_line step (value_of b.now)))) }
-    ensures { WritesText K.Sink sink.old sink.new (line_text (set_line step (value_of b.now))) result }
-{
-    let mut line = LineBuffer::new();
-    put_set(&mut line, step, b);
-    line.write(sink)
-}
-
-fn put_set(line: &mut LineBuffer, step: u32, b: &BaseSet)
+/// The line of a base set, whose polygon of x has this text.
+pub(crate) fn put_set(line: &mut LineBuffer, x: &LineBuffer, step: u32, b: &BaseSet)
+    requires x { x.now ≡ blanked (corner_words b.now.x) }
+    requires short { length x.now ≤ 861 }
     ensures { line.new ≡ line_text (set_line step (value_of b.now)) }
 {
     line.start("set");
@@ -256,14 +246,14 @@ fn put_set(line: &mut LineBuffer, step: u32, b: &BaseSet)
     line.number(b.col);
     line.number(b.row);
     line.word("x");
-    put_corners(line, &b.x);
+    line.append(x);
     line.word("y");
     put_corners(line, &b.y);
     line.end();
 }
 
 // How many corners a polygon has, and each of them.
-fn put_corners(line: &mut LineBuffer, p: &Poly)
+pub(crate) fn put_corners(line: &mut LineBuffer, p: &Poly)
     requires { length line.old + 861 ≤ 2048 }
     ensures bytes { line.new ≡ line.old ++ blanked (corner_words p.now) }
     ensures short { length line.new ≤ length line.old + 861 }

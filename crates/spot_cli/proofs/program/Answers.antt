@@ -11,7 +11,6 @@ returns-in-Ok g c =
       source_read = was.source_read;
       known = was.known;
       bad_words = was.bad_words;
-      not_yet = was.not_yet;
       read_fault = was.read_fault;
       too_long = was.too_long;
       not_json = was.not_json;

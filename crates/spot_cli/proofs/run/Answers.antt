@@ -2,7 +2,7 @@ use Rattle.std.proofs.Common.{◌∙◌, arith, ℕ, List, Option}
 use Rattle.spot_terms.specs.declared.status.Status.{Status}
 use Rattle.spot_claims.specs.Runs.{Run}
 use Rattle.spot_run.specs.RunOf.{run_of}
-use Rattle.spot_cli.proofs.Endings.{IsSentOn, stays_written, not_done, output_still, headline_still, source_read_still, known_still, bad_words_still, not_yet_still, read_fault_still, too_long_still, not_json_still, not_tree_still, refused_still, no_problem_still, late_problem_still, ego_too_fast_still, too_many_cells_still, lane_too_wide_still, too_many_lane_polygons_still, area_too_wide_still, too_many_boxes_still, write_fault_still, complete_still}
+use Rattle.spot_cli.proofs.Endings.{IsSentOn, stays_written, not_done, output_still, headline_still, source_read_still, known_still, bad_words_still, read_fault_still, too_long_still, not_json_still, not_tree_still, refused_still, no_problem_still, late_problem_still, ego_too_fast_still, too_many_cells_still, lane_too_wide_still, too_many_lane_polygons_still, area_too_wide_still, too_many_boxes_still, write_fault_still, complete_still}
 use Rattle.spot_cli.proofs.run.Goals as goal
 
 pub returns : goal.returns
@@ -24,7 +24,6 @@ returns g c =
       sink_later = omega arith;
       known = known_still run after faults status sent was.known;
       bad_words = bad_words_still run after faults status sent was.bad_words;
-      not_yet = not_yet_still run after faults status sent was.not_yet;
       read_fault = read_fault_still run after faults status sent was.read_fault;
       too_long = too_long_still run after faults status sent was.too_long;
       not_json = not_json_still run after faults status sent was.not_json;

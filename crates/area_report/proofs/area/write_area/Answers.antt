@@ -1,6 +1,7 @@
 use Rattle.std.proofs.Common.{◌≡◌, true}
 use Rattle.area_report.specs.Areas.{GoesOn}
-use Rattle.area_report.proofs.RunTexts.{IsAfter, takes_start, start_written, start_fault, takes_step, step_written, step_fault, takes_last, last_written}
+use Rattle.area_report.proofs.RunSteps.{IsAfter}
+use Rattle.area_report.proofs.RunTexts.{takes_start, start_written, start_fault, takes_step, step_written, step_fault, takes_last, last_written}
 use Rattle.area_report.proofs.area.write_area.Goals as goal
 
 pub write_step-requires : goal.write_step-requires
@@ -16,19 +17,19 @@ loop-run-init g c = start_written g.O.Occupied.count g.O.Occupied.hits (g.R.Reco
 
 pub write_step-requires-in-loop-run : goal.write_step-requires-in-loop-run
 write_step-requires-in-loop-run g c =
-    let after : IsAfter g.O.Occupied.count g.O.Occupied.hits (g.R.Recording.recorded c.args.recording.now) g.K.Sink c.loop-run.run c.step.new.self = record { pieces = c.step.ensures.pieces; plan = c.step.ensures.plan; steps = c.step.ensures.steps; at = c.step.ensures.at; list = c.step.ensures.list } in
+    let after : IsAfter g.O.Occupied.count g.O.Occupied.hits c.loop-run.run c.step.new.self = record { pieces = c.step.ensures.pieces; plan = c.step.ensures.plan; steps = c.step.ensures.steps; at = c.step.ensures.at; list = c.step.ensures.list } in
     takes_step g.O.Occupied.count g.O.Occupied.hits (g.R.Recording.recorded c.args.recording.now) g.K.Sink c.args.run.now c.loop-run.run c.step.new.self c.args.sink.now c.loop-run.sink c.at-step-in-loop-run.result c.discs-in-loop-run.result.now c.sets-in-loop-run.result.now c.discs-in-loop-run.ensures c.loop-run.invariant (c.goes_on.ensures.0 c.loop-run-test.true) after
     c.at-step-in-loop-run.ensures c.sets-in-loop-run.ensures.sets c.sets-in-loop-run.ensures.few c.requires.room
 
 pub loop-run-preserved : goal.loop-run-preserved
 loop-run-preserved g c =
-    let after : IsAfter g.O.Occupied.count g.O.Occupied.hits (g.R.Recording.recorded c.args.recording.now) g.K.Sink c.loop-run.run c.step.new.self = record { pieces = c.step.ensures.pieces; plan = c.step.ensures.plan; steps = c.step.ensures.steps; at = c.step.ensures.at; list = c.step.ensures.list } in
+    let after : IsAfter g.O.Occupied.count g.O.Occupied.hits c.loop-run.run c.step.new.self = record { pieces = c.step.ensures.pieces; plan = c.step.ensures.plan; steps = c.step.ensures.steps; at = c.step.ensures.at; list = c.step.ensures.list } in
     step_written g.O.Occupied.count g.O.Occupied.hits (g.R.Recording.recorded c.args.recording.now) g.K.Sink c.args.run.now c.loop-run.run c.step.new.self c.args.sink.now c.loop-run.sink c.write_step-in-loop-run.new.sink c.at-step-in-loop-run.result c.discs-in-loop-run.result.now c.sets-in-loop-run.result.now c.discs-in-loop-run.ensures c.loop-run.invariant (c.goes_on.ensures.0 c.loop-run-test.true) after
     c.at-step-in-loop-run.ensures c.sets-in-loop-run.ensures.sets c.sets-in-loop-run.ensures.few c.sets-in-loop-run.ensures.holds c.in_ok-write_step-2.ensures
 
 pub returns-in_err-write_step-2 : goal.returns-in_err-write_step-2
 returns-in_err-write_step-2 g c =
-    let after : IsAfter g.O.Occupied.count g.O.Occupied.hits (g.R.Recording.recorded c.args.recording.now) g.K.Sink c.loop-run.run c.step.new.self = record { pieces = c.step.ensures.pieces; plan = c.step.ensures.plan; steps = c.step.ensures.steps; at = c.step.ensures.at; list = c.step.ensures.list } in
+    let after : IsAfter g.O.Occupied.count g.O.Occupied.hits c.loop-run.run c.step.new.self = record { pieces = c.step.ensures.pieces; plan = c.step.ensures.plan; steps = c.step.ensures.steps; at = c.step.ensures.at; list = c.step.ensures.list } in
     step_fault g.O.Occupied.count g.O.Occupied.hits (g.R.Recording.recorded c.args.recording.now) g.K.Sink c.args.run.now c.loop-run.run c.step.new.self c.args.sink.now c.loop-run.sink c.write_step-in-loop-run.new.sink c.at-step-in-loop-run.result _ c.discs-in-loop-run.result.now c.sets-in-loop-run.result.now _ c.from_residual-in_err-write_step-2.result c.discs-in-loop-run.ensures c.loop-run.invariant
     (c.goes_on.ensures.0 c.loop-run-test.true) after c.at-step-in-loop-run.ensures c.sets-in-loop-run.ensures.sets c.sets-in-loop-run.ensures.few c.in_err-write_step-2.ensures c.from_residual-in_err-write_step-2.ensures.0
 

@@ -8,24 +8,24 @@ use Rattle.area_report.proofs.area.write_sets.Goals as goal
 pub loop-b-init : goal.loop-b-init
 loop-b-init g c = nothing_yet _ _
 
-pub write_set-requires : goal.write_set-requires
-write_set-requires g c =
+pub write-requires : goal.write-requires
+write-requires g c =
     let bs = c.args.sets.now in
     let i = c.loop-b.b-index in
     let n = length bs in
     takes_next (line_text (set_line c.args.step (value_of c.b-item.result))) (report_text (set_lines c.args.step n (drop (i + 1) bs))) c.loop-b.invariant (next_set c.args.step n i bs c.b-item.result c.loop-b-test.true c.b-item.is) (g.met.K.Sink.fewer c.loop-b.sink) (room_is g.K.Sink c.args.sink.now c.args.step bs c.requires)
 
-pub returns-in_err-write_set : goal.returns-in_err-write_set
-returns-in_err-write_set g c =
+pub returns-in_err-write : goal.returns-in_err-write
+returns-in_err-write g c =
     let bs = c.args.sets.now in
     let i = c.loop-b.b-index in
-    text_is (step_text c.args.step bs) (fault_next _ c.from_residual.result c.loop-b.invariant (next_set c.args.step (length bs) i bs c.b-item.result c.loop-b-test.true c.b-item.is) c.in_err-write_set.ensures c.from_residual.ensures.0)
+    text_is (step_text c.args.step bs) (fault_next _ c.from_residual.result c.loop-b.invariant (next_set c.args.step (length bs) i bs c.b-item.result c.loop-b-test.true c.b-item.is) c.in_err-write.ensures c.from_residual.ensures.0)
 
 pub loop-b-preserved : goal.loop-b-preserved
 loop-b-preserved g c =
     let bs = c.args.sets.now in
     let i = c.loop-b.b-index in
-    next_written c.loop-b.invariant (next_set c.args.step (length bs) i bs c.b-item.result c.loop-b-test.true c.b-item.is) c.in_ok-write_set.ensures
+    next_written c.loop-b.invariant (next_set c.args.step (length bs) i bs c.b-item.result c.loop-b-test.true c.b-item.is) c.in_ok-write.ensures
 
 pub write_count-requires : goal.write_count-requires
 write_count-requires g c =

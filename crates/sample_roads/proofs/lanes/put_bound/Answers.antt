@@ -1,9 +1,8 @@
-use Rattle.std.proofs.Common.{◌≡◌, ◌∙◌, ℕ, ◌+◌, ◌*◌, ◌-◌, ◌%◌, List, [], ◌∷◌, ◌++◌, map, codes, decimal, ap, sym, refl}
-use Rattle.json.specs.Token.{Token, begin_object, end_object, begin_array, end_array, key, string}
+use Rattle.std.proofs.Common.{List, [], ◌∷◌, ◌++◌, map, ap, sym}
+use Rattle.json.specs.Token.{Token, begin_array, end_array, string}
 use Rattle.spot_terms.specs.Lists.{numbers_from}
-use Rattle.spot_terms.specs.Samples.{leaf}
 use Rattle.spot_terms.specs.Samples.{bound_point, bound}
-use Rattle.sample_roads.specs.Written.{tokens_of, all_tokens, opening, opening_with_id, same_direction, root_opening}
+use Rattle.sample_roads.specs.Written.{tokens_of, all_tokens, opening}
 use Rattle.sample_roads.proofs.Appended.{before, same, held}
 use Rattle.sample_roads.proofs.lanes.put_bound.Goals as goal
 

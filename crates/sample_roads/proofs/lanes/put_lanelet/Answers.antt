@@ -1,4 +1,4 @@
-use Rattle.std.proofs.Common.{◌≡◌, ◌∙◌, ◌+◌, ◌*◌, ◌-◌, List, [], ◌∷◌, ◌++◌, codes, decimal, ap, sym, append_assoc, ℕ}
+use Rattle.std.proofs.Common.{◌≡◌, ◌∙◌, ◌*◌, ◌-◌, List, [], ◌∷◌, ◌++◌, codes, decimal, ap, sym, ℕ}
 use Rattle.json.specs.Token.{Token, end_array}
 use Rattle.spot_terms.specs.Samples.{tenths, bound, left_of, right_of, lanelet}
 use Rattle.sample_roads.specs.Written.{tokens_of, all_tokens, opening_with_id}

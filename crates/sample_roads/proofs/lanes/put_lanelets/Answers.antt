@@ -1,4 +1,4 @@
-use Rattle.std.proofs.Common.{◌≡◌, ◌∙◌, ◌+◌, ◌++◌, arith, ℕ}
+use Rattle.std.proofs.Common.{◌≡◌, ◌∙◌, ◌+◌, arith}
 use Rattle.spot_terms.specs.Samples.{lanelet}
 use Rattle.sample_roads.proofs.Appended.{next_element}
 use Rattle.sample_roads.proofs.lanes.put_lanelets.Goals as goal

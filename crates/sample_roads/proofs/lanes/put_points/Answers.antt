@@ -1,5 +1,4 @@
-use Rattle.std.proofs.Common.{◌≡◌, ◌∙◌, ◌+◌, ◌*◌, ◌++◌, List, ap, sym, arith, ℕ, decimal}
-use Rattle.json.specs.Token.{Token}
+use Rattle.std.proofs.Common.{◌≡◌, ◌∙◌, ◌+◌, ◌++◌, List, ap, arith, ℕ}
 use Rattle.spot_terms.specs.Samples.{point, bound_point}
 use Rattle.sample_roads.specs.Written.{tokens_of}
 use Rattle.sample_roads.proofs.Appended.{next_element}

@@ -1,8 +1,7 @@
-use Rattle.std.proofs.Common.{◌≡◌, ◌∙◌, ◌≤◌, length, List, [], ◌∷◌, ◌++◌, ap, sym, subst, ℕ}
+use Rattle.std.proofs.Common.{◌≡◌, ◌∙◌, ◌≤◌, length, List, ◌++◌, ap, sym, subst, ℕ}
 use Rattle.std.specs.Str.{IsUtf8}
 use Rattle.json.specs.Token.{Token}
 use Rattle.json.specs.Print.{print}
-use Rattle.spot_claims.specs.Tree.{Element, IsTreeOf}
 use Rattle.sample_roads.specs.JsonOf.{text_of}
 use Rattle.spot_terms.specs.Samples.{roads, sample_text}
 use Rattle.sample_roads.specs.Written.{tokens_of}

@@ -1,7 +1,7 @@
-use Rattle.std.proofs.Common.{◌≡◌, ◌∙◌, ◌+◌, ◌*◌, ◌%◌, List, [], ◌∷◌, ◌++◌, codes, decimal, ap, ap₂, ℕ}
+use Rattle.std.proofs.Common.{◌≡◌, ◌∙◌, ◌+◌, ◌*◌, ◌%◌, List, [], ◌∷◌, ◌++◌, codes, decimal, ap, ℕ}
 use Rattle.json.specs.Token.{Token, end_array}
 use Rattle.spot_terms.specs.Samples.{leaf}
-use Rattle.spot_terms.specs.Samples.{hundredths, body, start, car}
+use Rattle.spot_terms.specs.Samples.{hundredths, body, start}
 use Rattle.sample_roads.specs.Written.{tokens_of, opening_with_id}
 use Rattle.sample_roads.proofs.Appended.{before}
 use Rattle.sample_roads.proofs.sample.put_mover.Goals as goal

@@ -1,4 +1,4 @@
-use Rattle.std.proofs.Common.{◌≡◌, ◌∙◌, ◌+◌, List, [], ◌∷◌, ◌++◌, map, ap, sym, append_assoc, append-nil, ℕ}
+use Rattle.std.proofs.Common.{◌≡◌, ◌∙◌, List, [], ◌∷◌, ◌++◌, map, ap, sym, append_assoc, append-nil}
 use Rattle.json.specs.Token.{Token, end_array}
 use Rattle.spot_terms.specs.Lists.{numbers_from}
 use Rattle.spot_terms.specs.Samples.{Made}

@@ -1,10 +1,7 @@
-use Rattle.std.proofs.Common.{◌≡◌, ◌∙◌, ℕ, ◌+◌, ◌*◌, ◌-◌, ◌%◌, List, [], ◌∷◌, ◌++◌, map, codes, decimal, ap, sym, refl}
-use Rattle.json.specs.Token.{Token, begin_object, end_object, begin_array, end_array, key, string}
-use Rattle.spot_terms.specs.Lists.{numbers_from}
-use Rattle.spot_terms.specs.Samples.{leaf}
+use Rattle.std.proofs.Common.{◌++◌, codes}
 use Rattle.spot_terms.specs.Samples.{exact}
-use Rattle.sample_roads.specs.Written.{tokens_of, all_tokens, opening, opening_with_id, same_direction, root_opening}
-use Rattle.sample_roads.proofs.Appended.{before, same, held}
+use Rattle.sample_roads.specs.Written.{tokens_of}
+use Rattle.sample_roads.proofs.Appended.{before}
 use Rattle.sample_roads.proofs.things.put_motion.Goals as goal
 
 pub returns-clause-tokens : goal.returns-clause-tokens

@@ -1,0 +1,4 @@
+use Rattle.spot_run.proofs.sample.write_sample.Goals as goal
+
+pub write_made-requires-clause-room : goal.write_made-requires-clause-room
+write_made-requires-clause-room g c = c.requires.room c.in-Ok.scenario c.in-Ok.ensures.scenario

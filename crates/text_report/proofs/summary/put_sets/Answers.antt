@@ -1,0 +1,8 @@
+use Rattle.text_report.proofs.Spaced.{starts, word_stands, ends}
+use Rattle.text_report.proofs.summary.put_sets.Goals as goal
+
+pub returns : goal.returns
+returns c =
+    (starts c.start.ensures
+    (word_stands c.number.ensures.bytes
+    (ends c.end.ensures))).is
