@@ -10,7 +10,8 @@ use Rattle.convex_poly.specs.Turns.{cross, TurnsLeft}
 use Rattle.convex_poly.specs.Chains.{key, Rising}
 use Rattle.spot_terms.proofs.Ring.{ring, Exp, var, num, ◌⊕◌, ◌⊖◌, ◌⊗◌}
 use Rattle.spot_terms.proofs.Orders.{below_trans, difference_not_negative, difference_positive, positive_not_negative, product_positive, sum_of_positives, weaken, zero_not_negative, product_not_negative, below_or_at_least, opposite_twice}
-use Rattle.convex_poly.proofs.Crosses.{cross_exp, cross_turn, cross_first, cross_second}
+use Rattle.spot_terms.proofs.OneHull.{cross_first, cross_second}
+use Rattle.convex_poly.proofs.Crosses.{cross_exp, cross_turn}
 
 -- ---- turns along a chain
 

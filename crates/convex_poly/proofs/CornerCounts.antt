@@ -14,9 +14,10 @@ use Rattle.convex_poly.specs.Polygons.{IsPosition}
 use Rattle.convex_poly.specs.Turns.{cross}
 use Rattle.convex_poly.proofs.Chains.{positive_part}
 use Rattle.convex_poly.proofs.Corners.{FanLeft, corner_fan}
-use Rattle.convex_poly.proofs.Crosses.{cross_exp, cross_second}
+use Rattle.convex_poly.proofs.Crosses.{cross_exp}
 use Rattle.convex_poly.proofs.HullCorners.{far, before_key}
 use Rattle.spot_terms.proofs.Places.{all_map}
+use Rattle.spot_terms.proofs.OneHull.{cross_second}
 
 -- each item differs from the later ones
 abbrev pub IsDistinct : {X : Type 0} → List X → Type 0

@@ -14,9 +14,9 @@ use Rattle.spot_terms.proofs.Mixes.{Affine}
 use Rattle.spot_terms.proofs.Hulls.{mix_hull, hull_not_below, hull_subset, hull_first}
 use Rattle.spot_terms.proofs.Orders.{difference_positive, irreflexive, natural_of, opposite_not_negative, positive_not_negative, square_positive, sum_not_negative, sum_positive, zero_by_signs, zero_not_negative}
 use Rattle.convex_poly.specs.Turns.{cross, inner, EdgesLeft, ClosingLeft, IsOn}
-use Rattle.convex_poly.proofs.Crosses.{inner_exp, cross_affine, inner_affine, cross_turn, cross_swap, cross_first, cross_second, cross_parts, cross_weighs_x, cross_weighs_y, inner_weighs_x, inner_weighs_y, inner_parts}
+use Rattle.convex_poly.proofs.Crosses.{inner_exp, cross_affine, inner_affine, cross_turn, cross_swap, cross_parts, cross_weighs_x, cross_weighs_y, inner_weighs_x, inner_weighs_y, inner_parts}
 use Rattle.spot_terms.proofs.Places.{all_map, same_index, compare3}
-use Rattle.spot_terms.proofs.OneHull.{same_pt}
+use Rattle.spot_terms.proofs.OneHull.{cross_first, cross_second, same_pt}
 
 -- ---- a triangle
 

@@ -32,16 +32,6 @@ cross_swap a b c =
     (cross_exp (var 0) (var 1) (var 2) (var 3) (var 4) (var 5))
     (num (pos 0) ⊖ cross_exp (var 2) (var 3) (var 0) (var 1) (var 4) (var 5)) refl
 
-pub cross_first : (a b : Pt) → cross a b a ≡ pos 0
-cross_first a b =
-    ring (a.x ∷ a.y ∷ b.x ∷ b.y ∷ [])
-    (cross_exp (var 0) (var 1) (var 2) (var 3) (var 0) (var 1)) (num (pos 0)) refl
-
-pub cross_second : (a b : Pt) → cross a b b ≡ pos 0
-cross_second a b =
-    ring (a.x ∷ a.y ∷ b.x ∷ b.y ∷ [])
-    (cross_exp (var 0) (var 1) (var 2) (var 3) (var 2) (var 3)) (num (pos 0)) refl
-
 -- the three parts of a triangle make up the whole
 pub cross_parts : (a b c q : Pt) → (cross b c q +ℤ cross c a q) +ℤ cross a b q ≡ cross a b c
 cross_parts a b c q =

@@ -18,10 +18,10 @@ use Rattle.convex_poly.specs.Turns.{cross}
 use Rattle.convex_poly.proofs.Chains.{positive_part}
 use Rattle.convex_poly.proofs.CornerCounts.{IsAfter, after_all, fan_all}
 use Rattle.convex_poly.proofs.Corners.{FanLeft, corner_fan, hull_edges_left}
-use Rattle.convex_poly.proofs.Crosses.{cross_exp, cross_second}
+use Rattle.convex_poly.proofs.Crosses.{cross_exp}
 use Rattle.convex_poly.proofs.HullCorners.{before_key, far, key_before}
 use Rattle.spot_terms.proofs.Places.{all_at, all_map, same_index}
-use Rattle.spot_terms.proofs.OneHull.{same_pt}
+use Rattle.spot_terms.proofs.OneHull.{cross_second, same_pt}
 
 -- ---- turns at the first corner
 

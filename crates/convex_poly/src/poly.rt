@@ -123,6 +123,17 @@ pub fn hull(points: &[Pt]) -> Poly
     Poly { corners }
 }
 
+/// The polygon of the hull of 1 to 20 points. It has no more corners than there are points.
+pub fn hull_of_few(points: &[Pt]) -> Poly
+    requires some { 0 < length points.now }
+    requires few { length points.now ≤ 20 }
+    requires positions { AllByRecursion IsPosition points.now }
+    ensures hull { IsHullOf points.now result }
+    ensures few { length result ≤ length points.now }
+{
+    hull(points)
+}
+
 /// The polygon of the hull of two points: the segment between them, or the one point that both are.
 pub fn segment(p: Pt, q: Pt) -> Poly
     requires p_in { IsPosition p }

@@ -40,7 +40,7 @@ fn polygon_of(rt: &impl Abort, row: usize, points: &[Pt]) -> Poly
         "row {row}: {points:?}"
     );
     assert!(rt; are_positions(points), "row {row}: {points:?}");
-    hull(points)
+    hull_of_few(points)
 }
 
 #[test]

@@ -1,6 +1,5 @@
 ghost use Rattle.std.specs.Prelude.{◌≡◌, ◌<◌, ◌≤◌, ◌+◌, length};
 ghost use Rattle.std.specs.List.{AllByRecursion};
-ghost use Rattle.spot_terms.specs.Hull.{IsHullOf};
 ghost use Rattle.spot_terms.specs.Whole.{SizeAtMost};
 ghost use Rattle.convex_poly.specs.Polygons.{IsPosition, IsSummand};
 
@@ -18,19 +17,9 @@ fn at(x: i64, y: i64) -> Pt
     Pt { x, y }
 }
 
-/// The hull of at most 20 points.
-fn hull_of(points: &[Pt]) -> Poly
-    requires some { 0 < length points.now }
-    requires few { length points.now ≤ 20 }
-    requires positions { AllByRecursion IsPosition points.now }
-    ensures { IsHullOf points.now result }
-{
-    hull(points)
-}
-
 #[test]
 fn corners_of_hulls(rt: HostRuntime) -> Result<(), Fail> {
-    let square = hull_of(&[
+    let square = hull_of_few(&[
         at(0, 0),
         at(4, 0),
         at(4, 4),
@@ -44,13 +33,13 @@ fn corners_of_hulls(rt: HostRuntime) -> Result<(), Fail> {
         square.copy().corners(),
         [at(0, 0), at(4, 0), at(4, 4), at(0, 4)].as_slice()
     );
-    let slanted = hull_of(&[at(3, 3), at(1, 1), at(2, 2), at(0, 0)]);
+    let slanted = hull_of_few(&[at(3, 3), at(1, 1), at(2, 2), at(0, 0)]);
     assert_eq!(rt; slanted.corners(), [at(0, 0), at(3, 3)].as_slice());
-    let upright = hull_of(&[at(5, 1), at(5, 9), at(5, 4)]);
+    let upright = hull_of_few(&[at(5, 1), at(5, 9), at(5, 4)]);
     assert_eq!(rt; upright.corners(), [at(5, 1), at(5, 9)].as_slice());
-    let point = hull_of(&[at(7, -7), at(7, -7)]);
+    let point = hull_of_few(&[at(7, -7), at(7, -7)]);
     assert_eq!(rt; point.corners(), [at(7, -7)].as_slice());
-    let all = hull_of(&[
+    let all = hull_of_few(&[
         at(-FAR, -FAR),
         at(FAR, -FAR),
         at(FAR, FAR),
@@ -66,7 +55,7 @@ fn corners_of_hulls(rt: HostRuntime) -> Result<(), Fail> {
 
 #[test]
 fn points_supports_and_rows(rt: HostRuntime) -> Result<(), Fail> {
-    let triangle = hull_of(&[at(0, 0), at(10, 3), at(3, 10)]);
+    let triangle = hull_of_few(&[at(0, 0), at(10, 3), at(3, 10)]);
     for (x, y, inside) in [
         (3, 10, true),
         (2, 1, true),
@@ -90,7 +79,7 @@ fn points_supports_and_rows(rt: HostRuntime) -> Result<(), Fail> {
     ] {
         assert_eq!(rt; triangle.run(y0, y1), run, "at {y0} {y1}");
     }
-    let segment = hull_of(&[at(9, 6), at(0, 0)]);
+    let segment = hull_of_few(&[at(9, 6), at(0, 0)]);
     for (x, y, inside) in [
         (3, 2, true),
         (9, 6, true),
@@ -103,7 +92,7 @@ fn points_supports_and_rows(rt: HostRuntime) -> Result<(), Fail> {
     for (y, run) in [(0, Some((0, 0))), (1, None), (2, Some((3, 3))), (7, None)] {
         assert_eq!(rt; segment.run(y, y), run, "at {y}");
     }
-    let thin = hull_of(&[at(-FAR, -FAR), at(FAR, FAR - 1)]);
+    let thin = hull_of_few(&[at(-FAR, -FAR), at(FAR, FAR - 1)]);
     assert_eq!(rt; thin.run(-FAR, -FAR), Some((-FAR, -FAR)));
     assert_eq!(rt; thin.run(0, 0), None);
     Ok(())
@@ -111,13 +100,13 @@ fn points_supports_and_rows(rt: HostRuntime) -> Result<(), Fail> {
 
 #[test]
 fn polygons_apart(rt: HostRuntime) -> Result<(), Fail> {
-    let triangle = hull_of(&[at(0, 0), at(10, 0), at(0, 10)]);
-    assert!(rt; triangle.disjoint(&hull_of(&[at(6, 5), at(10, 10)])));
-    assert!(rt; !triangle.disjoint(&hull_of(&[at(5, 5), at(10, 10)])));
-    assert!(rt; !triangle.disjoint(&hull_of(&[at(1, 1), at(2, 2)])));
-    let slash = hull_of(&[at(0, 0), at(1, 1)]);
-    assert!(rt; !slash.disjoint(&hull_of(&[at(0, 1), at(1, 0)])));
-    assert!(rt; hull_of(&[at(0, 0)]).disjoint(&hull_of(&[at(0, 1)])));
+    let triangle = hull_of_few(&[at(0, 0), at(10, 0), at(0, 10)]);
+    assert!(rt; triangle.disjoint(&hull_of_few(&[at(6, 5), at(10, 10)])));
+    assert!(rt; !triangle.disjoint(&hull_of_few(&[at(5, 5), at(10, 10)])));
+    assert!(rt; !triangle.disjoint(&hull_of_few(&[at(1, 1), at(2, 2)])));
+    let slash = hull_of_few(&[at(0, 0), at(1, 1)]);
+    assert!(rt; !slash.disjoint(&hull_of_few(&[at(0, 1), at(1, 0)])));
+    assert!(rt; hull_of_few(&[at(0, 0)]).disjoint(&hull_of_few(&[at(0, 1)])));
     Ok(())
 }
 

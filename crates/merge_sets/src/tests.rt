@@ -1,5 +1,5 @@
 //! Tests against worked values, and against values of a program that was written apart from this one.
-ghost use Rattle.std.specs.Prelude.{◌≡◌, ℕ, ◌<◌, ◌≤◌, ◌↔◌, IfOk, IsTrue, Some, length};
+ghost use Rattle.std.specs.Prelude.{◌≡◌, ℕ, ◌≤◌, ◌↔◌, IfOk, IsTrue, Some, length};
 ghost use Rattle.std.specs.List.{AllByRecursion};
 ghost use Rattle.spot_terms.specs.Whole.{SizeAtMost, Within};
 ghost use Rattle.base_sets.specs.Values.{IsBox, IsGrid};
@@ -9,7 +9,7 @@ ghost use Rattle.base_sets.specs.declared.grid.Grid.{Grid as GridOf};
 use super::*;
 use crate::cell_rows::ROWS;
 use base_sets::{BaseSet, Grid, OuterBox};
-use convex_poly::{Poly, Pt, hull};
+use convex_poly::{Poly, Pt, hull_of_few};
 use std::alloc::{AllocError, Global};
 use std::process::Abort;
 use std::test::Fail;
@@ -72,16 +72,6 @@ fn are_in_rows(corners: &[Pt], o: &OuterBox) -> bool
     true
 }
 
-/// The hull of at most 18 points.
-fn hull_of(points: &[Pt]) -> Poly
-    requires some { 0 < length points.now }
-    requires few { length points.now ≤ 18 }
-    requires positions { AllByRecursion IsPosition points.now }
-    ensures { length result ≤ 18 }
-{
-    hull(points)
-}
-
 /// The polygon of corners of these places and speeds.
 fn polygon_of(rt: &impl Abort, alloc: Global, pairs: &[(i64, i64)]) -> Result<Poly, AllocError>
     ensures few { IfOk result (λ p. length p ≤ 18) }
@@ -96,7 +86,7 @@ fn polygon_of(rt: &impl Abort, alloc: Global, pairs: &[(i64, i64)]) -> Result<Po
     }
     assert!(rt; !corners.is_empty() && corners.len() <= 18);
     assert!(rt; are_positions(&corners));
-    let p = hull_of(&corners);
+    let p = hull_of_few(&corners);
     assert!(rt; are_slow(p.corners()));
     Ok(p)
 }
