@@ -6,3 +6,4 @@ pub mod Nearest
 pub mod Sizes
 pub mod Signs
 pub mod DigitLemmas
+pub mod PlainParts

@@ -37,7 +37,7 @@ signed_reading true top tens places r h = record {
   away = rw (size_of_neg r, times_neg top (10 ^ places)) (away_neg (top * 10 ^ places) (10 ^ tens) r h);
 }
 
-reading_is : (minus : Bool) (m tens : ℕ) (shrinks : Bool) (e places r : ℕ) → IsNearest (m * 10 ^ (places + (if shrinks then 0 else e))) (10 ^ (tens + (if shrinks then e else 0))) r → IsReading places (scaled minus m tens (shrinks, e)) (signed minus r)
+pub reading_is : (minus : Bool) (m tens : ℕ) (shrinks : Bool) (e places r : ℕ) → IsNearest (m * 10 ^ (places + (if shrinks then 0 else e))) (10 ^ (tens + (if shrinks then e else 0))) r → IsReading places (scaled minus m tens (shrinks, e)) (signed minus r)
 reading_is minus m tens true e places r h = let z : places + 0 ≡ places = omega arith in signed_reading minus m (tens + e) places r (rw z at h)
 reading_is minus m tens false e places r h =
     let z : tens + 0 ≡ tens = omega arith in
@@ -58,11 +58,11 @@ reads_once places text r q a b =
     let e : a.fraction ≡ b.fraction = cc in
     reads_one places b.fraction r q (subst (λ (f : Fraction). IsReading places f r) e a.reading) b.reading
 
-size_signed : (minus : Bool) (r : ℕ) → nat_abs (signed minus r) ≡ r
+pub size_signed : (minus : Bool) (r : ℕ) → nat_abs (signed minus r) ≡ r
 size_signed true r = size_of_neg r
 size_signed false r = refl
 
-signed_fits : (minus : Bool) (r : ℕ) → r ≤ 10 ^ 18 → FitsSigned w128 (signed minus r)
+pub signed_fits : (minus : Bool) (r : ℕ) → r ≤ 10 ^ 18 → FitsSigned w128 (signed minus r)
 signed_fits true r h = omega (arith, ints, h)
 signed_fits false r h = omega (arith, ints, h)
 

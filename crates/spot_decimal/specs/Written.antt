@@ -1,7 +1,7 @@
 -- The parts of a decimal text, and the nearest whole number to a quotient.
 use Rattle.std.specs.Prelude.{◌≡◌, ℕ, ◌+◌, ◌-◌, ◌*◌, ◌^◌, ◌<◌, ◌≤◌, List, ◌++◌, length, take, drop, min, Bool, true, false, Option, Some, None, if◌then◌else◌}
 use Rattle.std.specs.Str.Parse.{digits_value}
-use Rattle.spot_terms.specs.Decimal.{are_digits, exponent_part, fraction_of, scaled}
+use Rattle.spot_terms.specs.Decimal.{are_digits, digits_part, exponent_part, fraction_of, head_part, is_exponent, scaled, tail_part}
 
 -- what stands before a place, and what stands behind it
 abbrev pub head_to : Option ℕ → List ℕ → List ℕ
@@ -48,3 +48,14 @@ pub record IsNearest (n d r : ℕ) : Type 0 where
 -- the same of digits, a point before the last of them, an exponent and places
 abbrev pub IsNearestTo : List ℕ → List ℕ → Bool → ℕ → ℕ → ℕ → Type 0
 IsNearestTo whole part shrinks e places r = IsNearest (digits_value 10 (whole ++ part) * 10 ^ (places + (if shrinks then 0 else e))) (10 ^ (length part + (if shrinks then e else 0))) r
+
+-- the text is digits with a point among them maybe, and nothing else: how many stand behind the point, and the number of all
+pub record IsPlain (text : List ℕ) (part value : ℕ) : Type 0 where
+  pub digits : digits_part text ≡ Some (part, value)
+  pub head : head_part is_exponent text ≡ text
+  pub tail : tail_part is_exponent text ≡ None
+
+-- r is a number of these digits behind the point in units 10^-places
+pub record IsPlainSize (value part places r : ℕ) : Type 0 where
+  pub few : part ≤ places
+  pub same : r ≡ value * 10 ^ (places - part)

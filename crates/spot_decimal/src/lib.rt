@@ -3,6 +3,7 @@
 
 mod digits;
 mod parts;
+mod plain;
 mod value;
 
 ghost use Rattle.std.specs.Prelude.{◌≡◌, ℕ, ℤ, ◌<◌, ◌≤◌, ◌^◌, ◌↔◌, None, length, nat_abs, IfOk, IsErrOf};
@@ -10,6 +11,7 @@ ghost use Rattle.spot_terms.specs.Decimal.{fraction_of, signed, Reads};
 
 pub use digits::read_digits;
 use parts::parse;
+use plain::plain_reading;
 use thiserror::Error;
 use value::size_of;
 
@@ -47,7 +49,11 @@ pub fn read_decimal(text: &str, places: u32) -> Result<i128, NumberFault>
     if text.len() > MOST_BYTES {
         return Err(NumberFault::LongNumber);
     }
-    let Some(decimal) = parse(text.as_bytes()) else {
+    let bytes = text.as_bytes();
+    if let Some(reading) = plain_reading(bytes, places) {
+        return Ok(reading);
+    }
+    let Some(decimal) = parse(bytes) else {
         return Err(NumberFault::NotDecimal);
     };
     let Some(size) = size_of(&decimal, places) else {
@@ -57,7 +63,7 @@ pub fn read_decimal(text: &str, places: u32) -> Result<i128, NumberFault>
 }
 
 // The number of this size, negative after a minus.
-fn with_sign(minus: bool, size: u64) -> i128
+pub(crate) fn with_sign(minus: bool, size: u64) -> i128
     ensures { result ≡ signed minus size }
 {
     let size = i128::from(size);
@@ -88,6 +94,11 @@ mod tests {
             ("2.5e+3", 3, Ok(2500000)),
             ("-0.4", 0, Ok(0)),
             ("-0.5", 0, Ok(-1)),
+            ("-791.8557", 6, Ok(-791855700)),
+            ("123456789012345678", 0, Ok(123456789012345678)),
+            ("1234567890123.25", 6, Err(NumberFault::TooLarge)),
+            ("12.3.", 6, Err(NumberFault::NotDecimal)),
+            ("12-3", 6, Err(NumberFault::NotDecimal)),
             ("1e12", 6, Ok(1000000000000000000)),
             ("1000000000000.0000004", 6, Ok(1000000000000000000)),
             ("1000000000000.0000005", 6, Err(NumberFault::TooLarge)),

@@ -12,11 +12,11 @@ use crate::value::value_after;
 // Exponents from here on are taken for one another: of at most 64 digits they leave nothing, or too much.
 const MOST_EXPONENT: u64 = 1000;
 
-// What stands behind a sign.
+/// What stands behind a sign.
 #[derive(Clone, Copy)]
-struct Signed<'a> {
-    minus: bool,
-    rest: &'a [u8],
+pub struct Signed<'a> {
+    pub minus: bool,
+    pub rest: &'a [u8],
 }
 
 // What stands before a mark, and what stands behind it if there is one.
@@ -48,8 +48,8 @@ pub struct Decimal<'a> {
     pub exponent: Exponent,
 }
 
-// Takes off a sign.
-fn take_sign(text: &[u8]) -> Signed<'_>
+/// Takes off a sign.
+pub fn take_sign(text: &[u8]) -> Signed<'_>
     ensures minus { result.minus ≡ (signed_part text.now).0 }
     ensures rest { result.rest.now ≡ (signed_part text.now).1 }
 {

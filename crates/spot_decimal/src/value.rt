@@ -7,8 +7,8 @@ ghost use Rattle.spot_decimal.specs.Written.{front, kept, IsNearestTo};
 
 use crate::parts::{Decimal, Digits};
 
-// The largest size of a reading.
-const MOST: u64 = 1_000_000_000_000_000_000;
+/// The largest size of a reading.
+pub const MOST: u64 = 1_000_000_000_000_000_000;
 
 /// The number that the digits write behind those of `start`, where it is below `10 * MOST + 10`.
 pub fn value_after(start: u64, digits: &[u8]) -> Option<u64>
@@ -27,8 +27,8 @@ pub fn value_after(start: u64, digits: &[u8]) -> Option<u64>
     Some(value)
 }
 
-// The number with this many zeros behind it, where it is below `10 * MOST + 10`.
-fn with_zeros(start: u64, zeros: usize) -> Option<u64>
+/// The number with this many zeros behind it, where it is below `10 * MOST + 10`.
+pub fn with_zeros(start: u64, zeros: usize) -> Option<u64>
     requires { start < 10 ^ 19 + 10 }
     ensures some { IfSome result (λ n. (n ≡ start * 10 ^ zeros) × (n < 10 ^ 19 + 10)) }
     ensures none { IfNone result (10 ^ 19 + 10 ≤ start * 10 ^ zeros) }
