@@ -71,6 +71,22 @@ pub(crate) fn put_in_order(
     let Some(i) = place_of(attributes.as_slice(), key.as_str()) else {
         return Ok(false);
     };
+    attributes.reserve_exact(1)?;
     attributes.insert(i, Attribute { key, value })?;
     Ok(true)
+}
+
+/// Puts an attribute of these texts among others by its key, if they are few and none has it.
+pub(crate) fn put_text(
+    alloc: Global,
+    attributes: &mut Vec<Attribute>,
+    key: &str,
+    value: &str,
+) -> Result<bool, AllocError>
+    ensures { result ≡ Ok true → (found : Members) → map pair attributes.old.items ≡ pairs_of found
+        → map pair attributes.new.items ≡ pairs_of (put key.now (string value.now) found) }
+{
+    let key = String::from_str(alloc, key)?;
+    let value = String::from_str(alloc, value)?;
+    put_in_order(attributes, key, value)
 }

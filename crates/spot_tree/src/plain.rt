@@ -1,11 +1,14 @@
 //! The tree of a plain text: one of strings without escapes, of arrays and of objects behind names alone.
-ghost use Rattle.std.specs.Prelude.{◌≡◌, ◌+◌, ◌<◌, ◌≤◌, ◌∷◌, ◌++◌, [], List, ℕ, length, drop, true, OnOk, IfOk, IfSome};
+ghost use Rattle.std.specs.Prelude.{◌≡◌, ◌+◌, ◌<◌, ◌≤◌, ◌∷◌, [], map, length, drop, IfOk, IfSome};
 ghost use Rattle.json.specs.Token.{Token};
 ghost use Rattle.json.specs.Lex.{lex, between, token, comma, colon};
-ghost use Rattle.spot_claims.specs.Tree.{Element, IsTreeOf};
-ghost use Rattle.spot_tree.specs.Walk.{ReadsElement, ReadsItem, ReadsContent, ReadsAttributes, opened};
+ghost use Rattle.spot_claims.specs.Tree.{IsTreeOf};
+ghost use Rattle.spot_tree.specs.Views.{pair};
+ghost use Rattle.spot_tree.specs.Walk.{ReadsElement, ReadsItem, ReadsContent, ReadsAttributes};
 
-use crate::lexemes::{Lexeme, behind_spaces, next_lexeme};
+use crate::attributes::put_text;
+use crate::lexemes::{Lexeme, behind_open, behind_spaces, next_lexeme};
+use crate::node::Attribute;
 use crate::slots::Slots;
 use spot_terms::MOST_BYTES;
 use std::alloc::{AllocError, Global};
@@ -25,7 +28,7 @@ pub(crate) fn read_plain(alloc: Global, bytes: &[u8]) -> Result<Option<Slots>, A
     };
     let mut parts = Slots::new(alloc);
     let mut pending = Vec::new(alloc);
-    let Some(behind) = read_element(inside, DEPTH, &mut parts, &mut pending)? else {
+    let Some(behind) = read_element(alloc, inside, DEPTH, &mut parts, &mut pending)? else {
         return Ok(None);
     };
     if !behind_spaces(behind).is_empty() {
@@ -38,6 +41,7 @@ pub(crate) fn read_plain(alloc: Global, bytes: &[u8]) -> Result<Option<Slots>, A
 // wait for the element that they are in to be closed, are the same again.
 #[cycle(read_element)]
 fn read_element<'a>(
+    alloc: Global,
     text: &'a str,
     depth: u32,
     parts: &mut Slots,
@@ -55,13 +59,14 @@ fn read_element<'a>(
     }
     let at = parts.len();
     let first = pending.len();
-    if !parts.open(name)? {
-        return Ok(None);
-    }
-    let Some(rest) = read_attributes(rest, depth, parts)? else {
+    let mut attributes = Vec::new(alloc);
+    let Some(rest) = read_attributes(alloc, rest, depth, &mut attributes)? else {
         return Ok(None);
     };
-    let Some((said, behind)) = read_content(rest, depth, parts, pending)? else {
+    if !parts.open(name, attributes)? {
+        return Ok(None);
+    }
+    let Some((said, behind)) = read_content(alloc, rest, depth, parts, pending)? else {
         return Ok(None);
     };
     if !parts.close(at, said, last_from(pending, first))? {
@@ -82,6 +87,7 @@ fn last_from(numbers: &Vec<u32>, first: usize) -> &[u32]
 // Reads the items of an element up to its bracket, and answers their text and what is behind the bracket.
 #[cycle(read_element)]
 fn read_content<'a>(
+    alloc: Global,
     text: &'a str,
     depth: u32,
     parts: &mut Slots,
@@ -93,7 +99,7 @@ fn read_content<'a>(
     let mut rest = text;
     let mut said = "";
     while let Some((Lexeme::Comma, next)) = next_lexeme(rest) {
-        let Some((more, behind)) = read_item(next, depth, said, parts, pending)? else {
+        let Some((more, behind)) = read_item(alloc, next, depth, said, parts, pending)? else {
             return Ok(None);
         };
         said = more;
@@ -108,6 +114,7 @@ fn read_content<'a>(
 // Reads an item, and answers the text with it, and what is behind it.
 #[cycle(read_element)]
 fn read_item<'a>(
+    alloc: Global,
     text: &'a str,
     depth: u32,
     said: &'a str,
@@ -130,7 +137,7 @@ fn read_item<'a>(
                 return Ok(None);
             }
             pending.push(parts.len() as u32)?;
-            let Some(behind) = read_element(inside, depth - 1, parts, pending)? else {
+            let Some(behind) = read_element(alloc, inside, depth - 1, parts, pending)? else {
                 return Ok(None);
             };
             Ok(Some((said, behind)))
@@ -139,15 +146,15 @@ fn read_item<'a>(
     }
 }
 
-// Reads the attributes of the last element, if there are any, and answers what is behind them.
+// Reads the attributes of an element, if there are any, and answers what is behind them.
 fn read_attributes<'a>(
+    alloc: Global,
     text: &'a str,
     depth: u32,
-    parts: &mut Slots,
+    attributes: &mut Vec<Attribute>,
 ) -> Result<Option<&'a str>, AllocError>
-    requires { 0 < length parts.old }
-    ensures reads { IfOk result (λ o. IfSome o (λ behind. (pairs : List (List ℕ × List ℕ)) × ReadsAttributes depth (lex between text.now) (lex between behind.now) pairs
-        × ((front : List Element) (name : List ℕ) → parts.old ≡ front ++ opened name [] ∷ [] → parts.new ≡ front ++ opened name pairs ∷ []))) }
+    requires { attributes.old.items ≡ [] }
+    ensures reads { IfOk result (λ o. IfSome o (λ behind. ReadsAttributes depth (lex between text.now) (lex between behind.now) (map pair attributes.new.items))) }
     ensures shorter { IfOk result (λ o. IfSome o (λ behind. length behind.now ≤ length text.now)) }
 {
     let Some(inside) = behind_brace(text) else {
@@ -156,7 +163,7 @@ fn read_attributes<'a>(
     if depth == 0 {
         return Ok(None);
     }
-    read_members(inside, depth - 1, parts)
+    read_members(alloc, inside, depth - 1, attributes)
 }
 
 // The text behind a comma and a brace.
@@ -167,10 +174,7 @@ fn behind_brace(text: &str) -> Option<&str>
     let Some((Lexeme::Comma, next)) = next_lexeme(text) else {
         return None;
     };
-    match next_lexeme(next) {
-        Some((Lexeme::OpenObject, inside)) => Some(inside),
-        _ => None,
-    }
+    behind_open(next)
 }
 
 // A key and its string, and what is behind them.
@@ -192,19 +196,19 @@ fn member(text: &str) -> Option<(&str, &str, &str)>
 
 // Reads the attributes behind a brace, which are some, and answers what is behind them.
 fn read_members<'a>(
+    alloc: Global,
     text: &'a str,
     depth: u32,
-    parts: &mut Slots,
+    attributes: &mut Vec<Attribute>,
 ) -> Result<Option<&'a str>, AllocError>
-    requires { 0 < length parts.old }
-    ensures reads { IfOk result (λ o. IfSome o (λ behind. (pairs : List (List ℕ × List ℕ)) × ReadsAttributes (depth + 1) (comma ∷ token Token.begin_object ∷ lex between text.now) (lex between behind.now) pairs
-        × ((front : List Element) (name : List ℕ) → parts.old ≡ front ++ opened name [] ∷ [] → parts.new ≡ front ++ opened name pairs ∷ []))) }
+    requires { attributes.old.items ≡ [] }
+    ensures reads { IfOk result (λ o. IfSome o (λ behind. ReadsAttributes (depth + 1) (comma ∷ token Token.begin_object ∷ lex between text.now) (lex between behind.now) (map pair attributes.new.items))) }
     ensures shorter { IfOk result (λ o. IfSome o (λ behind. length behind.now < length text.now)) }
 {
     let Some((key, value, behind)) = member(text) else {
         return Ok(None);
     };
-    if !parts.put_attribute(key, value)? {
+    if !put_text(alloc, attributes, key, value)? {
         return Ok(None);
     }
     let mut rest = behind;
@@ -212,7 +216,7 @@ fn read_members<'a>(
         let Some((key, value, behind)) = member(next) else {
             return Ok(None);
         };
-        if !parts.put_attribute(key, value)? {
+        if !put_text(alloc, attributes, key, value)? {
             return Ok(None);
         }
         rest = behind;
