@@ -6,12 +6,11 @@ use Rattle.std.specs.List.{AllByRecursion}
 use Rattle.spot_terms.specs.Cells.{Pair, Lane, NetCell, part_count, part_cell, cells_of_piece, cells_from, lane_cells}
 use Rattle.spot_terms.specs.Lists.{Pairwise, numbers_below}
 use Rattle.spot_terms.specs.Network.{lane_of}
-use Rattle.spot_terms.specs.Ranges.{IsLaneInRange}
+use Rattle.spot_terms.specs.Ranges.{AreBuildable, IsLaneInRange}
 use Rattle.spot_terms.specs.declared.network.Origin.{Origin}
 use Rattle.spot_terms.specs.declared.network.Origin.TheVariants.{Part, Bridge}
 use Rattle.spot_terms.proofs.Members.{all_in_map}
 use Rattle.lanelets.specs.declared.cell.Placed.{Placed}
-use Rattle.lanelets.specs.Buildable.{AreBuildable}
 use Rattle.spot_terms.specs.Ranges.{lane_size, lanes_size}
 use Rattle.lanelets.specs.Made.{Adds, IsMadeOf, IsPlaced, source_of}
 use Rattle.lanelets.proofs.Places.{drop_at}

@@ -2,7 +2,6 @@
 pub mod Answers
 pub mod Beside
 pub mod Bridges
-pub mod Buildable
 pub mod Built
 pub mod Holding
 pub mod Kept

@@ -4,7 +4,7 @@ ghost use Rattle.std.specs.Prelude.{◌≡◌, ◌↔◌, ◌⊎◌, ◌<◌, �
 ghost use Rattle.std.specs.List.{AllByRecursion};
 ghost use Rattle.spot_terms.specs.Lists.{Includes};
 ghost use Rattle.spot_terms.specs.Network.{EndsLane, IsAhead};
-ghost use Rattle.lanelets.specs.Buildable.{AreBuildable};
+ghost use Rattle.spot_terms.specs.Ranges.{AreBuildable};
 ghost use Rattle.lanelets.specs.Links.{AreLinks};
 ghost use Rattle.lanelets.specs.Listing.{AreBelow, AreLists, Gathers};
 ghost use Rattle.lanelets.specs.Steps.{net_of, IsOfLane, LeadsTo, IsInside, IsJoined, IsJoinedFrom, AreJoints, IsOntoFirst};

@@ -3,9 +3,9 @@
 ghost use Rattle.std.specs.Prelude.{◌≡◌, ◌<◌, ◌≤◌, length, slice_get, Some, OnOk};
 ghost use Rattle.spot_terms.specs.Cells.{bridges_from};
 ghost use Rattle.lanelets.specs.Bridges.{IsBridge, bridges_of};
-ghost use Rattle.lanelets.specs.Buildable.{AreBuildable};
 ghost use Rattle.lanelets.specs.Links.{IsFollowed, AreLinks};
 ghost use Rattle.spot_terms.specs.Lists.{Lists};
+ghost use Rattle.spot_terms.specs.Ranges.{AreBuildable};
 ghost use Rattle.lanelets.specs.Made.{Adds, IsPlaced};
 ghost use Rattle.lanelets.specs.Pieces.{AreNear};
 

@@ -3,9 +3,9 @@
 ghost use Rattle.std.specs.Prelude.{◌≡◌, ◌≤◌, length, IfOk, IfErr};
 ghost use Rattle.spot_terms.specs.Cells.{cells};
 ghost use Rattle.spot_terms.specs.Lists.{Pairwise};
-ghost use Rattle.lanelets.specs.Buildable.{AreBuildable};
 ghost use Rattle.lanelets.specs.Answers.{IsNetFault};
 ghost use Rattle.spot_terms.specs.Limits.{HasNetwork};
+ghost use Rattle.spot_terms.specs.Ranges.{AreBuildable};
 ghost use Rattle.lanelets.specs.Links.{AreLinks};
 ghost use Rattle.lanelets.specs.Made.{IsPlaced};
 

@@ -2,8 +2,7 @@
 
 ghost use Rattle.std.specs.Prelude.{◌≡◌, ◌≤◌, ◌*◌, ℕ, length};
 ghost use Rattle.spot_terms.specs.Cells.{cells_from, lane_cells, cells};
-ghost use Rattle.spot_terms.specs.Ranges.{IsLaneInRange, lane_size};
-ghost use Rattle.lanelets.specs.Buildable.{AreBuildable};
+ghost use Rattle.spot_terms.specs.Ranges.{AreBuildable, IsLaneInRange, lane_size};
 ghost use Rattle.lanelets.specs.Links.{AreLinks};
 
 use crate::bridges::bridge_count;

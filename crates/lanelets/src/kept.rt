@@ -5,7 +5,7 @@ ghost use Rattle.std.specs.List.{AllByRecursion};
 ghost use Rattle.spot_terms.specs.Cells.{Lane};
 ghost use Rattle.spot_terms.specs.Lists.{Pairwise};
 ghost use Rattle.spot_terms.specs.Network.{IsSide, Overlaps, are_neighbours as are_neighbours_of, lane_of as lane_of_origin};
-ghost use Rattle.lanelets.specs.Buildable.{AreBuildable};
+ghost use Rattle.spot_terms.specs.Ranges.{AreBuildable};
 ghost use Rattle.lanelets.specs.Kept.{AreBeside, IsKept};
 ghost use Rattle.lanelets.specs.Steps.{net_of, IsInside};
 

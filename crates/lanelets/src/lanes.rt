@@ -1,8 +1,7 @@
 //! The lanelets of which a network is built.
 
 ghost use Rattle.std.specs.Prelude.{◌≡◌, ◌<◌, ◌≤◌, length, slice_get, Some};
-ghost use Rattle.spot_terms.specs.Ranges.{IsLaneInRange, lane_size};
-ghost use Rattle.lanelets.specs.Buildable.{AreBuildable};
+ghost use Rattle.spot_terms.specs.Ranges.{AreBuildable, IsLaneInRange, lane_size};
 
 use indexmap::IndexMap;
 use spot_terms::{MOST_BYTES, RawLane};

@@ -2,7 +2,7 @@
 
 ghost use Rattle.std.specs.Prelude.{◌≡◌, ◌<◌, ◌≤◌, length, IfOk};
 ghost use Rattle.spot_terms.specs.Lists.{Pairwise};
-ghost use Rattle.lanelets.specs.Buildable.{AreBuildable};
+ghost use Rattle.spot_terms.specs.Ranges.{AreBuildable};
 ghost use Rattle.lanelets.specs.Links.{IsPlaceOf, ArePlaces, AreSuccessors, AreSources, AreLinks};
 
 use crate::columns::columns_of;

@@ -2,8 +2,7 @@
 
 ghost use Rattle.std.specs.Prelude.{◌+◌, ◌<◌, ◌≤◌, length, OnOk};
 ghost use Rattle.spot_terms.specs.Cells.{part_cell, cells_of_piece, cells_from, lane_cells};
-ghost use Rattle.spot_terms.specs.Ranges.{IsLaneInRange};
-ghost use Rattle.lanelets.specs.Buildable.{AreBuildable};
+ghost use Rattle.spot_terms.specs.Ranges.{AreBuildable, IsLaneInRange};
 ghost use Rattle.lanelets.specs.Pieces.{IsPieceInRange, IsPieceAt};
 ghost use Rattle.lanelets.specs.Made.{IsMadeOf, IsPlaced, Adds};
 

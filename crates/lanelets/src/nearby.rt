@@ -2,7 +2,7 @@
 
 ghost use Rattle.std.specs.Prelude.{◌≡◌, ◌↔◌, ◌<◌, ◌≤◌, ℕ, length, slice_index_or, Some, IfOk};
 ghost use Rattle.std.specs.List.{AllByRecursion};
-ghost use Rattle.lanelets.specs.Buildable.{AreBuildable};
+ghost use Rattle.spot_terms.specs.Ranges.{AreBuildable};
 ghost use Rattle.lanelets.specs.Listing.{AreLists, AreRows};
 ghost use Rattle.lanelets.specs.Nearby.{AreListed, AreSideRows, HasPieceNumber, IsNearby, IsPieceNumber};
 ghost use Rattle.lanelets.specs.Steps.{net_of, IsInside, IsOfLane};

@@ -2,9 +2,8 @@ mod cases;
 
 ghost use Rattle.std.specs.Prelude.{◌≡◌, ◌≤◌, ◌↔◌, length, IfOk, IsTrue};
 ghost use Rattle.std.specs.List.{AllByRecursion};
-ghost use Rattle.spot_terms.specs.Ranges.{IsLaneInRange, IsPairInRange, lane_size};
+ghost use Rattle.spot_terms.specs.Ranges.{AreBuildable, IsLaneInRange, IsPairInRange, lane_size};
 ghost use Rattle.spot_terms.specs.Whole.{SizeAtMost};
-ghost use Rattle.lanelets.specs.Buildable.{AreBuildable};
 
 use super::*;
 use cases::{CASES, Case, FAULTS, LaneRow, Places};

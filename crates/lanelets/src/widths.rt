@@ -1,8 +1,7 @@
 //! How wide lanelets are.
 
 ghost use Rattle.std.specs.Prelude.{◌↔◌, IsTrue};
-ghost use Rattle.spot_terms.specs.Ranges.{IsLaneInRange, IsPairInRange};
-ghost use Rattle.lanelets.specs.Buildable.{AreBuildable};
+ghost use Rattle.spot_terms.specs.Ranges.{AreBuildable, IsLaneInRange, IsPairInRange};
 ghost use Rattle.spot_terms.specs.Limits.{AreFarApart, IsTooWide, IsFirstWide};
 
 use crate::lanes::{lane_at, lane_count};

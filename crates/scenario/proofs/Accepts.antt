@@ -1,8 +1,8 @@
 -- What an accepted tree has at the elements that are read.
 use Rattle.std.proofs.Common.{◌≡◌, ◌∙◌, ◌⊎◌, inl, inr, ℕ, ◌<◌, ◌≤◌, List, [], ◌∷◌, ◌++◌, get_or, Option, Some, None, Bool, true, false, refl, sym, ap, subst, arith, codes, IsTrue, is_none, lit<, append-nil, not, ◌==◌, ◌||◌, ◌&&◌, nat_lt}
-use Rattle.std.specs.List.{list_all, flat_map, filter_map, count_by}
+use Rattle.std.specs.List.{list_all, filter_map, count_by}
 use Rattle.spot_terms.proofs.Members.{in_flat_map}
-use Rattle.spot_terms.proofs.ListLemmas.{includes_back, includes_front, includes_flat_map}
+use Rattle.spot_terms.proofs.ListLemmas.{includes_front, includes_flat_map}
 use Rattle.spot_terms.specs.Lists.{Includes, At}
 use Rattle.spot_terms.specs.declared.status.Code.TheVariants.{Missing, UncertainPosition, UncertainValue}
 use Rattle.spot_claims.specs.Tree.{Element, all_named, first_named, text_at}

@@ -1,15 +1,16 @@
 -- The least of the failing checks, one list more at a time.
-use Rattle.std.proofs.Common.{◌≡◌, ◌⊎◌, inl, inr, ℕ, ◌+◌, ◌<◌, ◌≤◌, List, [], ◌∷◌, ◌++◌, length, take, get_or, map, Option, Some, None, Bool, true, false, cond, refl, sym, subst, arith, nat_lt, ◌==◌, ◌||◌, ◌&&◌, take_all}
+use Rattle.std.proofs.Common.{◌≡◌, ◌⊎◌, inl, inr, ℕ, zero, suc, ◌+◌, ◌<◌, ◌≤◌, List, [], ◌∷◌, ◌++◌, length, take, get_or, map, Option, Some, None, Bool, true, false, cond, refl, sym, subst, arith, nat_lt, ◌==◌, ◌||◌, ◌&&◌, take_all}
 use Rattle.std.proofs.lemmas.Bool.Decides.{nat_tests}
 use Rattle.std.proofs.lemmas.List.{take_more}
 use Rattle.spot_terms.proofs.Members.{in_map}
 use Rattle.spot_terms.proofs.ListLemmas.{includes_front, includes_map}
 use Rattle.spot_terms.specs.Lists.{Includes, At}
 use Rattle.spot_terms.specs.declared.status.Code.{Code}
-use Rattle.spot_claims.specs.Tree.{Element}
+use Rattle.spot_claims.specs.Tree.{Element, text_at}
 use Rattle.spot_claims.specs.Paths.{Path, walk, at_path}
 use Rattle.spot_claims.specs.Profile as profile
 use Rattle.spot_claims.specs.Profile.{FailsAt, FailsBy, Fails, IsReadBy, code_of}
+use Rattle.scenario.specs.Has.{IsGood}
 use Rattle.scenario.specs.Table.{check_of, line_of, path_of}
 use Rattle.scenario.specs.Fault.{Least, IsLeastFault, least_of, comes_before, OneOf, ChecksFail, StartsFail, LinesFail}
 use Rattle.scenario.specs.declared.table.Check.{Check}
@@ -176,3 +177,15 @@ pub all_lines : (tree : List Element) (lines : List Line) (o : Option Fault) →
 all_lines tree lines o e h =
     let P : List profile.Line → Type 0 = λ rows. Least (FailsBy rows tree) o in
     subst P e (same_least (LinesFail tree lines) (FailsBy (map line_of lines) tree) o (to_profile tree lines) (of_profile tree lines) h)
+
+-- the two checks of a good number don't fail
+pub no_fault : (tree : List Element) (e : ℕ) (n : profile.Number) → IsGood n (text_at tree e) → (j : ℕ) (check : profile.Check) → At (profile.is_number n) j check → FailsAt tree e check → ⊥
+no_fault tree e n good zero check at fails =
+    let P : profile.Check → Type 0 = λ k. FailsAt tree e k in
+    let bad : profile.is_bad_number (text_at tree e) ≡ true = subst P at fails in
+    let g = good.good in cc
+no_fault tree e n good (suc zero) check at fails = let P : profile.Check → Type 0 = λ k. FailsAt tree e k in good.fits (subst P at fails)
+no_fault tree e n good (suc (suc j)) check at fails = absurd at
+
+pub good_number : (tree : List Element) (checks : List Check) (e : ℕ) (n : profile.Number) → map check_of checks ≡ profile.is_number n → IsGood n (text_at tree e) → Least (ChecksFail tree checks e) None
+good_number tree checks e n is good = λ x j code m. let Q : List profile.Check → Type 0 = λ cs. At cs j m.check in no_fault tree e n good j m.check (subst Q is m.at) m.fails

@@ -11,6 +11,7 @@ pub mod Owned
 pub mod Parts
 pub mod Paths
 pub mod Readings
+pub mod RecordedStates
 pub mod Rises
 pub mod States
 pub mod Totals

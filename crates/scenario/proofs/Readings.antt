@@ -1,10 +1,10 @@
 -- What the reading of a text says of the checks of a number.
-use Rattle.std.proofs.Common.{◌≡◌, ◌∙◌, ◌⊎◌, inl, inr, ◌↔◌, ℕ, ◌*◌, ◌^◌, ◌≤◌, ℤ, pos, List, length, Bool, false, IsTrue, is_none, nat_lt, ◌||◌, Option, Some, None, IfSome, IfNone, sym, subst, arith, nat_abs, ◌<ℤ◌, ◌≤ℤ◌, ap}
+use Rattle.std.proofs.Common.{◌≡◌, ◌∙◌, ◌⊎◌, inl, inr, ◌↔◌, ℕ, ◌*◌, ◌^◌, ◌≤◌, ℤ, pos, List, length, Bool, false, true, not, IsTrue, is_none, nat_lt, ◌||◌, Option, Some, None, IfSome, IfNone, refl, sym, subst, arith, nat_abs, ◌<ℤ◌, ◌≤ℤ◌, ap}
 use Rattle.std.proofs.lemmas.Int.{ints, to_z-of_z}
 use mir.Val.{to_z, of_z}
 use mir.Syntax.{w64, w128}
 use Rattle.std.proofs.lemmas.Bool.Decides.{nat_tests}
-use Rattle.spot_terms.specs.Decimal.{Reads, fraction_of}
+use Rattle.spot_terms.specs.Decimal.{Fraction, Reads, fraction_of}
 use Rattle.spot_claims.specs.Profile.{Number, IsTooLarge, IsOutside, IsUneven, is_bad_number}
 use Rattle.spot_terms.specs.Whole.{Within}
 use Rattle.scenario.specs.Has.{IsGood}
@@ -95,3 +95,23 @@ abs_held z a m few k e =
 
 pub held_in : (z : ℤ) (m : ℕ) → nat_abs z ≤ m → m ≤ 10 ^ 18 → to_z w64 (of_z w64 z) ≡ z
 held_in z m few k = to_z-of_z w64 z (omega (arith, ints))
+
+-- ---- a number that is no fault
+
+good_of : (text : List ℕ) (o : Option Fraction) → fraction_of text ≡ o → (f : Fraction) → o ≡ Some f → length text ≤ 64 → is_bad_number text ≡ false
+good_of text None e f s short = cc
+good_of text (Some g) e f s short = rw e (short_false (length text) short)
+  where
+    short_false : (n : ℕ) → n ≤ 64 → (nat_lt 64 n || false) ≡ false
+    short_false n h = grind (arith, nat_tests)
+
+not_both : (b : Bool) → not b ≡ true → b ≡ true → ⊥
+not_both true t p = cc
+not_both false t p = cc
+
+pub good_ok : (n : Number) (text : List ℕ) (places : ℕ) (z : ℤ) (b : Bool) → places ≡ n.places → length text ≤ 64 → Reads places text z → nat_abs z ≤ 10 ^ 18
+    → (IsTrue b ↔ ((to_z w128 (of_z w128 z) <ℤ n.least) ⊎ (n.most <ℤ to_z w128 (of_z w128 z)))) → IsTrue (not b) → IsGood n text
+good_ok n text places z b e short h few past in_range = record {
+  good = good_of text (fraction_of text) refl h.fraction h.decimal short;
+  fits = λ out. not_both b in_range ((outside_ok n text places z b e short h few past).1 out);
+}

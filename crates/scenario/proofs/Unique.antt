@@ -1,10 +1,9 @@
 -- A tree has one scenario at most.
-use Rattle.std.proofs.Common.{◌≡◌, ◌∙◌, ℕ, ◌*◌, ◌≤◌, ℤ, pos, List, [], ◌∷◌, Option, Some, refl, sym, subst, arith, codes}
+use Rattle.std.proofs.Common.{◌≡◌, ◌∙◌, ℕ, ◌*◌, ℤ, pos, List, [], ◌∷◌, Some, refl, sym, subst, arith, codes}
 use Rattle.spot_terms.specs.Lists.{Pairwise}
-use Rattle.spot_terms.specs.Decimal.{Fraction, IsReading, Reads}
+use Rattle.spot_terms.specs.Decimal.{Reads}
 use Rattle.spot_terms.specs.Whole.{IsRootCeiling}
-use Rattle.spot_terms.specs.Bodies.{IsLeast, IsGreatest}
-use Rattle.spot_terms.proofs.Readings.{reads_one}
+use Rattle.spot_terms.specs.Bodies.{IsGreatest}
 use Rattle.spot_terms.specs.declared.scenario.RawLane.{RawLane}
 use Rattle.spot_terms.specs.declared.scenario.Mover.{Mover}
 use Rattle.spot_terms.specs.declared.scenario.Fixed.{Fixed}

@@ -1,5 +1,5 @@
 -- The least of the failing checks of a kind.
-use Rattle.std.specs.Prelude.{◌≡◌, ◌⊎◌, ◌<◌, ◌≤◌, ◌==◌, ◌&&◌, ◌||◌, ℕ, Bool, nat_lt, List, map, Option, Some, None, if◌then◌else◌}
+use Rattle.std.specs.Prelude.{◌≡◌, ◌⊎◌, ◌<◌, ◌≤◌, ◌==◌, ◌&&◌, ◌||◌, ℕ, Bool, nat_lt, List, length, map, Option, Some, None, if◌then◌else◌}
 use Rattle.std.specs.Borrow.{Bor}
 use Rattle.spot_terms.specs.Lists.{At, Includes}
 use Rattle.spot_terms.specs.declared.status.Code.{Code}
@@ -55,3 +55,7 @@ StartsFail tree line = OneOf (λ start. WaysFail tree line.checks.now (at_path t
 
 abbrev pub LinesFail : List Element → List Line → ℕ → ℕ → Code → Type 0
 LinesFail tree lines = OneOf (StartsFail tree) lines
+
+-- no check of the line fails behind a start of three steps, which is the path to recorded states
+abbrev pub NoneRecordedFails : List Element → Line → Type 0
+NoneRecordedFails tree line = (start : Bor (List Step)) → Includes line.starts.now start → length start.now ≡ 3 → Least (WaysFail tree line.checks.now (at_path tree (path_of start)) line.ways.now) None

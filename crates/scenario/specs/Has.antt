@@ -2,9 +2,9 @@
 use Rattle.std.specs.Prelude.{◌≡◌, ◌⊎◌, ℕ, ◌≤◌, List, [], ◌∷◌, length, Some, false, codes}
 use Rattle.spot_terms.specs.Lists.{Includes}
 use Rattle.spot_claims.specs.Tree.{Element, all_named, first_named, text_at}
-use Rattle.spot_claims.specs.Paths.{each_child, first_child, id_at}
+use Rattle.spot_claims.specs.Paths.{at_path, each_child, first_child, id_at}
 use Rattle.spot_claims.specs.Scenario.{below, bound_points}
-use Rattle.spot_claims.specs.Profile.{Number, lacks_all, is_bad_number, IsTooLarge, IsOutside, coordinate, shape_coordinate, size, angle, speed, step_number}
+use Rattle.spot_claims.specs.Profile.{Number, lacks_all, is_bad_number, IsTooLarge, IsOutside, coordinate, shape_coordinate, size, angle, speed, step_number, recorded}
 
 -- a number in its range
 pub record IsGood (n : Number) (text : List ℕ) : Type 0 where
@@ -45,6 +45,10 @@ pub record HasStart (tree : List Element) (e : ℕ) : Type 0 where
 pub record HasRecorded (tree : List Element) (e : ℕ) : Type 0 where
   pub position : HasPosition tree e
   pub time : HasExact tree e (codes "time") step_number
+
+-- all states that are recorded
+abbrev pub AllRecorded : List Element → Type 0
+AllRecorded tree = (e : ℕ) → Includes (at_path tree recorded) e → HasRecorded tree e
 
 -- ---- shapes
 

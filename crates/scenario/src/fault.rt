@@ -1,14 +1,19 @@
 //! The first failing check of a tree.
 
-ghost use Rattle.std.specs.Prelude.{◌≡◌, ◌<◌, map, length, IfOk};
+ghost use Rattle.std.specs.Prelude.{◌≡◌, ◌<◌, map, length, IfOk, IsTrue, None};
 ghost use Rattle.std.specs.List.{All};
 ghost use Rattle.scenario.specs.Known.{IsKnown};
-ghost use Rattle.scenario.specs.Fault.{Least, least_of, comes_before, ChecksFail, ElementsFail, WaysFail, StartsFail};
+ghost use Rattle.spot_claims.specs.Paths.{at_path};
+ghost use Rattle.scenario.specs.Table.{path_of};
+ghost use Rattle.scenario.specs.Has.{AllRecorded};
+ghost use Rattle.scenario.specs.Fault.{Least, least_of, comes_before, ChecksFail, ElementsFail, WaysFail, StartsFail, NoneRecordedFails};
 ghost use Rattle.spot_claims.specs.Profile.{Fails};
 
 use crate::checks::fails;
 use crate::known::{Known, know};
-use crate::table::{Check, Line, lines};
+use crate::numbers::is_good;
+use crate::recorded::all_have_recorded;
+use crate::table::{Check, Line, Path, RECORDED, lines};
 use crate::walk::walk;
 use spot_terms::Code;
 use spot_tree::Tree;
@@ -42,12 +47,29 @@ fn first_of(a: Option<Fault>, b: Option<Fault>) -> Option<Fault>
     }
 }
 
+// Whether these are the checks of a number, and the element, which is below `len`, is a good one: then none fails.
+fn is_good_number(tree: &Tree, e: u32, checks: &[Check]) -> bool
+    requires { e < length tree.now }
+    ensures { IsTrue result → Least (ChecksFail tree.now checks.now e) None }
+{
+    match checks {
+        [Check::BadNumber, second] => match second {
+            Check::OutOfRange(number) => is_good(tree.text(e), number),
+            _ => false,
+        },
+        _ => false,
+    }
+}
+
 // The first of these checks that fails at an element, which is below `len`.
 fn fault_at(tree: &Tree, known: &Known, e: u32, checks: &[Check]) -> Option<Fault>
     requires inside { e < length tree.now }
     requires known { IsKnown tree.now known.now }
     ensures { Least (ChecksFail tree.now checks.now e) result }
 {
+    if is_good_number(tree, e, checks) {
+        return None;
+    }
     for (number, check) in checks.iter().enumerate() {
         if fails(tree, known, e, check) {
             return Some(Fault {
@@ -93,23 +115,55 @@ fn fault_along(
     Ok(first)
 }
 
-// The first fault of a line.
+// The first fault of a line behind a start of it. Where nothing is missing of recorded states, they needn't be looked at: the
+// path to them alone has three steps.
+fn fault_from(
+    alloc: Global,
+    tree: &Tree,
+    known: &Known,
+    line: &Line,
+    start: Path,
+    has_states: bool,
+) -> Result<Option<Fault>, AllocError>
+    requires known { IsKnown tree.now known.now }
+    requires states { IsTrue has_states → length start.now ≡ 3 → Least (WaysFail tree.now line.now.checks.now (at_path tree.now (path_of start)) line.now.ways.now) None }
+    ensures { IfOk result (λ first. Least (WaysFail tree.now line.now.checks.now (at_path tree.now (path_of start.entry)) line.now.ways.now) first) }
+{
+    if has_states && start.len() == 3 {
+        return Ok(None);
+    }
+    prove!(0 < tree.len());
+    let found = walk(alloc, tree, start, &[0])?;
+    fault_along(alloc, tree, known, &found, line)
+}
+
+// The first fault of a line, where recorded states needn't be looked at if nothing is missing of them.
 fn fault_of(
     alloc: Global,
     tree: &Tree,
     known: &Known,
     line: &Line,
+    has_states: bool,
 ) -> Result<Option<Fault>, AllocError>
-    requires { IsKnown tree.now known.now }
+    requires known { IsKnown tree.now known.now }
+    requires states { IsTrue has_states → NoneRecordedFails tree.now line.now }
     ensures { IfOk result (λ first. Least (StartsFail tree.now line.now) first) }
 {
-    prove!(0 < tree.len());
     let mut first = None;
     for start in line.starts {
-        let found = walk(alloc, tree, start, &[0])?;
-        first = first_of(first, fault_along(alloc, tree, known, &found, line)?);
+        let fault = fault_from(alloc, tree, known, line, start, has_states)?;
+        first = first_of(first, fault);
     }
     Ok(first)
+}
+
+// Whether recorded states have all that is read of them.
+fn has_all_states(alloc: Global, tree: &Tree) -> Result<bool, AllocError>
+    ensures { IfOk result (λ has. IsTrue has → AllRecorded tree.now) }
+{
+    prove!(0 < tree.len());
+    let states = walk(alloc, tree, RECORDED, &[0])?;
+    Ok(all_have_recorded(tree, &states))
 }
 
 /// The first failing check of a tree, where one fails.
@@ -117,9 +171,11 @@ pub(crate) fn first_fault(alloc: Global, tree: &Tree) -> Result<Option<Fault>, A
     ensures { IfOk result (λ first. Least (Fails tree.now) first) }
 {
     let known = know(alloc, tree)?;
+    let has_states = has_all_states(alloc, tree)?;
     let mut first = None;
     for line in lines() {
-        first = first_of(first, fault_of(alloc, tree, &known, line)?);
+        let fault = fault_of(alloc, tree, &known, line, has_states)?;
+        first = first_of(first, fault);
     }
     Ok(first)
 }

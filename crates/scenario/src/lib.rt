@@ -11,6 +11,7 @@ mod known;
 mod lanes;
 mod numbers;
 mod read;
+mod recorded;
 mod shapes;
 mod table;
 mod values;

@@ -5,6 +5,7 @@ ghost use Rattle.spot_terms.specs.Decimal.{Reads};
 ghost use Rattle.spot_claims.specs.Paths.{id_of};
 ghost use Rattle.spot_claims.specs.Profile.{is_bad_number as is_bad, IsTooLarge, IsOutside, IsUneven};
 ghost use Rattle.scenario.specs.Table.{number_of};
+ghost use Rattle.scenario.specs.Has.{IsGood};
 
 use crate::table::Number;
 use spot_decimal::{NumberFault, read_decimal, read_digits};
@@ -72,6 +73,16 @@ pub(crate) fn is_outside(text: &str, number: &Number) -> bool
     match read_decimal(text, number.unit.places()) {
         Ok(reading) => is_past(reading, number),
         Err(fault) => fault == NumberFault::TooLarge,
+    }
+}
+
+/// Whether a text is surely a number in its range.
+pub(crate) fn is_good(text: &str, number: &Number) -> bool
+    ensures { IsTrue result → IsGood (number_of number.now) text.now }
+{
+    match read_decimal(text, number.unit.places()) {
+        Ok(reading) => !is_past(reading, number),
+        Err(_) => false,
     }
 }
 

@@ -4,13 +4,12 @@ ghost use Rattle.std.specs.Prelude.{◌≡◌, ◌+◌, ◌*◌, ◌≤◌, leng
 ghost use Rattle.std.specs.List.{AllByRecursion};
 ghost use Rattle.spot_terms.specs.Decimal.{Reads};
 ghost use Rattle.spot_terms.specs.Lists.{Pairwise};
-ghost use Rattle.spot_terms.specs.Ranges.{IsInRange, IsMoverInRange, IsFixedInRange, IsProblemInRange, AreStatesInRange, IsFew};
+ghost use Rattle.spot_terms.specs.Ranges.{IsMoverInRange, IsFixedInRange, IsProblemInRange};
 ghost use Rattle.spot_terms.specs.Ids.{HaveUniqueIds};
 ghost use Rattle.spot_claims.specs.Paths.{at_path, statics, dynamics, problems as problem_path};
 ghost use Rattle.spot_claims.specs.Scenario.{IsScenario, IsMover, IsFixed, IsProblem};
 ghost use Rattle.spot_claims.specs.Profile.{IsAccepted, step_size_text};
 ghost use Rattle.scenario.specs.Answers.{IsWhy};
-ghost use Rattle.scenario.specs.Lanes.{AreInRange};
 
 use crate::checks::step_size_text as text_of_step;
 use crate::fault::first_fault;
@@ -107,11 +106,7 @@ fn problems_in(alloc: Global, tree: &Tree) -> Result<Problems, AllocError>
 fn values_of(alloc: Global, tree: &Tree) -> Result<Scenario, AllocError>
     requires { IsAccepted tree.now }
     ensures is { IfOk result (λ s. IsScenario tree.now s) }
-    ensures in_range { IfOk result (λ s. IsInRange s) }
-    ensures lanes { IfOk result (λ s. AreInRange s.lanelets.entries) }
-    ensures recorded { IfOk result (λ s. AllByRecursion AreStatesInRange s.movers) }
     ensures ids { IfOk result (λ s. HaveUniqueIds s) }
-    ensures few { IfOk result (λ s. IsFew s) }
 {
     prove!(0 < tree.len());
     Ok(Scenario {
@@ -126,18 +121,11 @@ fn values_of(alloc: Global, tree: &Tree) -> Result<Scenario, AllocError>
 /// The scenario of a tree, where no check of the profile fails. Otherwise the refusal is the failing check at the least
 /// place, and at one place the first of the element's line.
 ///
-/// The step is 1 to 1,000 ticks. Positions are at most 10^13 µm in size, radii at most 250,000,000 µm, speeds at most
-/// 200,000 mm/s and angles at most 7,000,000 µrad in size, times at most 1,000,000 steps. There are at most 4,096
-/// obstacles. The two bounds of a lanelet have as many points, at least two. No two lanelets have the same id, no two
-/// obstacles of either kind, and no two problems. Recorded states and problems are at most 67,108,864 together, and so
-/// are points and references of all lanelets. References are kept as they stand, but for those that are no ids.
+/// No two lanelets have the same id, no two obstacles of either kind, and no two problems. References are kept as they stand,
+/// but for those that are no ids.
 pub fn read_scenario(alloc: Global, tree: &Tree) -> Result<Scenario, ReadFault>
     ensures ok { IfOk result (λ s. IsScenario tree.now s) }
-    ensures in_range { IfOk result (λ s. IsInRange s) }
-    ensures lanes { IfOk result (λ s. AreInRange s.lanelets.entries) }
-    ensures recorded { IfOk result (λ s. AllByRecursion AreStatesInRange s.movers) }
     ensures ids { IfOk result (λ s. HaveUniqueIds s) }
-    ensures few { IfOk result (λ s. IsFew s) }
     ensures err { IfErr result (λ fault. IsWhy tree.now fault) }
 {
     accept(alloc, tree)?;

@@ -165,7 +165,8 @@ const MOVING_START: Path = &[Step::Each("dynamicObstacle"), Step::First("initial
 
 const PROBLEM_START: Path = &[Step::Each("planningProblem"), Step::First("initialState")];
 
-const RECORDED: Path = &[
+/// The states of the first trajectories of dynamic obstacles.
+pub(crate) const RECORDED: Path = &[
     Step::Each("dynamicObstacle"),
     Step::First("trajectory"),
     Step::Each("state"),

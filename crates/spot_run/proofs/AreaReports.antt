@@ -4,7 +4,7 @@ use Rattle.spot_terms.specs.BaseSets.{SetValue}
 use Rattle.spot_terms.specs.Courses.{Course}
 use Rattle.spot_terms.specs.Ids.{HaveUniqueIds}
 use Rattle.spot_terms.specs.Pieces.{Hits}
-use Rattle.spot_terms.specs.Ranges.{IsCommandInRange, IsInRange}
+use Rattle.spot_terms.specs.Ranges.{IsCommandInRange}
 use Rattle.spot_terms.specs.Report.{Line, EgoValue, ego_line, last_line, report_text, FitsLine, IsReport}
 use Rattle.spot_terms.specs.StepLists.{AreStepLists}
 use Rattle.spot_terms.specs.Tasks.{PredictsTraffic, FindsArea}
@@ -15,7 +15,6 @@ use Rattle.spot_terms.specs.declared.lines.End.{End}
 use Rattle.spot_terms.specs.declared.lines.Mode.TheVariants as mode
 use Rattle.spot_terms.specs.declared.scenario.Scenario.{Scenario}
 use Rattle.spot_terms.specs.declared.status.Status.{Status}
-use Rattle.lanelets.specs.Buildable.{AreBuildable}
 use Rattle.base_sets.specs.Values.{course_with}
 use Rattle.participants.specs.Pieces.{pieces_at}
 use Rattle.participants.specs.Predictions.{Occupancies}
@@ -77,16 +76,16 @@ module _ (s : Scenario) (c : Command) (task : c.task ≡ Area) (e : EgoLine) (o 
   no_discs : DiscsFit (λ i. []) c.steps
   no_discs i d within among = absurd among
 
-  module _ (range : IsInRange s) (lanes : AreBuildable s.lanelets.entries) (few : IsCommandInRange c) where
+  module _ (few : IsCommandInRange c) where
     pub can_open : CanOpen s o.steps 40_000_000_000_000 e c.steps
-    can_open = traffic.can_open s c e o ego predicted range few
+    can_open = traffic.can_open s c e o ego predicted few
 
     good_course : IsCourse (course_of s c ego.problem)
-    good_course = over_course IsCourse (is_course e s.step ego.is.start ego.is.bounds ego.is.grid (range.step_low, range.step_high) (fits_of s c ego.problem e ego.is ego.slow))
+    good_course = over_course IsCourse (is_course e s.step ego.is.start ego.is.bounds ego.is.grid (s.in_range.step_low, s.in_range.step_high) (fits_of s c ego.problem e ego.is ego.slow))
 
     good_ego : FitsLine (ego_line (ego_of ego.problem (course_of s c ego.problem)))
     good_ego =
-        let id = (chosen_in_range c.problem s.problems ego.problem ego.is_chosen range.problems).id in
+        let id = (chosen_in_range c.problem s.problems ego.problem ego.is_chosen s.in_range.each_problem).id in
         subst (λ (x : EgoValue). FitsLine (ego_line x)) same_ego (ego_fits e (subst (λ (n : ℕ). n ≤ 4_294_967_295) (sym ego.is.problem) id) ego.is.start ego.is.bounds ego.is.grid)
 
     -- the lines behind those of the traffic
@@ -109,7 +108,7 @@ module _ (s : Scenario) (c : Command) (task : c.task ≡ Area) (e : EgoLine) (o 
     abbrev is_report : (lists : List (List SetValue)) (ends : End) → AreLists lists ends → IsAreaReport s c (all_lines lists ends) ends
     is_report lists ends are = record {
       traffic = traffic_lines s.movers o;
-      traffic_is = is_traffic s c o range predicted.is;
+      traffic_is = is_traffic s c o predicted.is;
       problem = ego.problem;
       pieces = pieces_at o;
       lists = lists;
@@ -120,7 +119,7 @@ module _ (s : Scenario) (c : Command) (task : c.task ≡ Area) (e : EgoLine) (o 
     abbrev is_beginning : (lists : List (List SetValue)) → AreFirst lists → IsAreaBeginning s c (first_lines lists)
     is_beginning lists are = record {
       traffic = traffic_lines s.movers o;
-      traffic_is = is_traffic s c o range predicted.is;
+      traffic_is = is_traffic s c o predicted.is;
       problem = ego.problem;
       pieces = pieces_at o;
       lists = lists;
@@ -154,7 +153,7 @@ module _ (s : Scenario) (c : Command) (task : c.task ≡ Area) (e : EgoLine) (o 
         })
       where
         fits_all : (lists : List (List SetValue)) (ends : End) → AreLists lists ends → AreShort lists → IsReport (all_lines lists ends)
-        fits_all lists ends over short = fits_report mode.Area s c.steps o (more_lines lists ends) range lanes few.steps.1 predicted
+        fits_all lists ends over short = fits_report mode.Area s c.steps o (more_lines lists ends) few.steps.1 predicted
             (all_fits (course_of s c ego.problem) good_course (λ i. length (pieces_at o i)) (λ i. Hits (pieces_at o i)) c.steps few.steps.1 (λ i. []) no_discs (ego_of ego.problem (course_of s c ego.problem)) lists ends good_ego over short)
 
     first_output : (lists : List (List SetValue)) → AreListsSoFar (course_with e.s e.e e.grid s.step) (count_at o) (hits_at o) c.steps lists → AreShort lists
@@ -164,7 +163,7 @@ module _ (s : Scenario) (c : Command) (task : c.task ≡ Area) (e : EgoLine) (o 
         subst (λ (t : Task). IsBeginningOf t s c (opening_text s c.steps o e ++ text_so_far (λ i. []) lists)) (sym task) (record {
           lines = first_lines lists;
           report = is_beginning lists over;
-          fits = fits_report mode.Area s c.steps o (lines_so_far ego.problem (course_of s c ego.problem) (λ i. []) lists) range lanes few.steps.1 predicted
+          fits = fits_report mode.Area s c.steps o (lines_so_far ego.problem (course_of s c ego.problem) (λ i. []) lists) few.steps.1 predicted
               (begun_fits (course_of s c ego.problem) good_course (λ i. length (pieces_at o i)) (λ i. Hits (pieces_at o i)) c.steps few.steps.1 (λ i. []) no_discs (ego_of ego.problem (course_of s c ego.problem)) lists good_ego over short);
           text_is = first_is lists;
         })
@@ -185,7 +184,7 @@ module _ (s : Scenario) (c : Command) (task : c.task ≡ Area) (e : EgoLine) (o 
           text_is = whole_is lists ends;
           claims = subst (λ (t : Task). ClaimsOf t s c (all_lines lists ends)) (sym task) (
             record { rest = traffic_lines s.movers o ++ more_lines lists ends; lines_are = refl },
-            traffic_covers mode.Area (more_lines lists ends) (area_others (ego_of ego.problem (course_of s c ego.problem)) lists ends) s c o range ids predicted,
+            traffic_covers mode.Area (more_lines lists ends) (area_others (ego_of ego.problem (course_of s c ego.problem)) lists ends) s c o ids predicted,
             area_covers s c (all_lines lists ends) ends (is_report lists ends over) task few.steps.0 ego.is.velocities (over_course (λ course. AllHold course (count_at o) (hits_at o) c.steps lists) hold),
           );
         }

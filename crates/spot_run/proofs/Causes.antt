@@ -8,7 +8,6 @@ use Rattle.spot_terms.specs.declared.limits.TheConstants.{MOST_BYTES}
 use Rattle.std.specs.Prelude.{IfSome}
 use Rattle.spot_terms.specs.Causes.{Takes}
 use Rattle.spot_terms.specs.Pieces.{Hits}
-use Rattle.spot_terms.specs.Ranges.{IsInRange}
 use Rattle.spot_terms.specs.Statuses.{IsDone}
 use Rattle.spot_terms.specs.Tasks.{ReadsInput, PredictsTraffic, FindsArea}
 use Rattle.spot_terms.specs.declared.command.Command.{Command}
@@ -432,9 +431,9 @@ loaded_holds run c s h = record {
 
 -- ---- by what loading and writing say
 
-pub loaded : (run : Run) (c : Command) (s : Scenario) → IsForCommand run c → ReadsInput c.task → IsInRange s → ((bytes : List ℕ) → run.told ≡ Some bytes → IsReadWhole bytes run.left × IsScenarioOf bytes s)
+pub loaded : (run : Run) (c : Command) (s : Scenario) → IsForCommand run c → ReadsInput c.task → ((bytes : List ℕ) → run.told ≡ Some bytes → IsReadWhole bytes run.left × IsScenarioOf bytes s)
     → Tells s c run.before run.after run.status → (run.status ≡ WriteFault → WriteFails run) → AllHold run
-loaded run c s for reads range told tells cause = loaded_holds run c s (record { for = for; reads = reads; range = range; told = told; tells = tells; cause = cause })
+loaded run c s for reads told tells cause = loaded_holds run c s (record { for = for; reads = reads; told = told; tells = tells; cause = cause })
 
 pub failed : (run : Run) (c : Command) → IsForCommand run c → ReadsInput c.task → ((bytes : List ℕ) → run.told ≡ Some bytes → Loads bytes run.left (Err run.status)) → IsLoadFault run.status → (run.status ≡ ReadFault → ReadFails run) → AllHold run
 failed run c for reads told fault read = fault_holds run c (record { for = for; reads = reads; told = told; fault = fault; read = read })

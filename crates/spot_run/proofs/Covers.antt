@@ -8,7 +8,7 @@ use Rattle.spot_terms.specs.Cells.{Lane}
 use Rattle.spot_terms.specs.Bodies.{InDisc}
 use Rattle.spot_terms.specs.LanePolygons.{LanePolygon}
 use Rattle.spot_terms.specs.Motions.{State, InBox}
-use Rattle.spot_terms.specs.Ranges.{IsInRange, IsMoverInRange, IsFixedInRange}
+use Rattle.spot_terms.specs.Ranges.{IsMoverInRange, IsFixedInRange}
 use Rattle.spot_terms.specs.Reach.{interval_numbers, disc_numbers}
 use Rattle.spot_terms.specs.Report.{Line, mover_line, late_line, fixed_line, lane_line, occ_line}
 use Rattle.spot_terms.specs.Participants.{starting}
@@ -136,8 +136,8 @@ covered mode more others s c o m p interval whole ids is i motions less = record
 }
 
 -- the lines of a report with traffic claim of it what they should
-pub traffic_covers : (mode : Mode) (more : List Line) (others : AreOthers more) (s : Scenario) (c : Command) (o : Occupancies) → IsInRange s → HaveUniqueIds s → IsPredicted s c.steps o → CoversParticipants s c (report_lines mode s.step c.steps s.movers o more)
-traffic_covers mode more others s c o range ids predicted =
+pub traffic_covers : (mode : Mode) (more : List Line) (others : AreOthers more) (s : Scenario) (c : Command) (o : Occupancies) → HaveUniqueIds s → IsPredicted s c.steps o → CoversParticipants s c (report_lines mode s.step c.steps s.movers o more)
+traffic_covers mode more others s c o ids predicted =
     let lanes = s.lanelets.entries in
     let is = predicted.is in record {
       movers = λ m i zero.
@@ -145,7 +145,7 @@ traffic_covers mode more others s c o range ids predicted =
             line = line_of p;
             printed = obstacle_stands mode s.step c.steps s.movers o more _ (mover_listed lanes s.step c.steps s.movers o.participants p is.participants j);
             alone = λ other listed same. mover_alone mode more others s c.steps o is ids p other j listed same;
-            line_is = is_mover_line lanes s.step c.steps m p (all_included IsMoverInRange s.movers m range.movers i) one;
+            line_is = is_mover_line lanes s.step c.steps m p (all_included IsMoverInRange s.movers m s.in_range.each_mover i) one;
             covered = λ interval less. covered mode more others s c o m p interval is ids one j (all_included (HoldsMotions lanes s.step c.steps) o.participants p predicted.holds j) less;
           };
       fixed = λ f i.
@@ -153,7 +153,7 @@ traffic_covers mode more others s c o range ids predicted =
             numbers = disc_numbers (pt f.x f.y) f.enclosing;
             printed = octagon_stands mode s.step c.steps s.movers o more _ (subst (Includes (map octagon_line o.fixed)) (octagon_is f n one) (includes_map octagon_line o.fixed n j));
             alone = λ numbers listed. fixed_alone mode more others s c.steps o is ids f numbers i listed;
-            holds = λ q disc. disc_in_octagon (pt f.x f.y) q f.enclosing (small f (all_included IsFixedInRange s.fixed f range.fixed i)) disc;
+            holds = λ q disc. disc_in_octagon (pt f.x f.y) q f.enclosing (small f (all_included IsFixedInRange s.fixed f s.in_range.each_fixed i)) disc;
           };
     }
   where

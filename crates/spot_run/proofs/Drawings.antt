@@ -4,7 +4,7 @@ use Rattle.std.specs.Io.KnownBytes.{Appends}
 use Rattle.spot_terms.specs.BaseSets.{SetValue}
 use Rattle.spot_terms.specs.Causes.{AppendsFront}
 use Rattle.spot_terms.specs.Courses.{Course}
-use Rattle.spot_terms.specs.Ranges.{IsCommandInRange, IsInRange}
+use Rattle.spot_terms.specs.Ranges.{IsCommandInRange}
 use Rattle.spot_terms.specs.RowBoxes.{IsWithinArea}
 use Rattle.spot_terms.specs.StepLists.{AreStepLists}
 use Rattle.spot_terms.specs.Tasks.{PredictsTraffic, FindsArea}
@@ -58,8 +58,8 @@ module _ (s : Scenario) (e : EgoLine) (o : Occupancies) (steps : ℕ) (r now : S
 -- ---- over the prediction of the scenario, where a run stands at its last step
 
 module _ (s : Scenario) (c : Command) (task : c.task ≡ Draw) (e : EgoLine) (o : Occupancies) (ego : HasEgo s c e) (predicted : IsPredicted s c.steps o) where
-  pub opens : IsInRange s → IsCommandInRange c → CanOpen s o.steps 40_000_000_000_000 e c.steps
-  opens range few = traffic.can_open s c e o ego predicted range few
+  pub opens : IsCommandInRange c → CanOpen s o.steps 40_000_000_000_000 e c.steps
+  opens few = traffic.can_open s c e o ego predicted few
 
   -- of an area that passes a limit
   pub limit_passed_tells : (before after : Option (List ℕ)) (status : Status) → IsPastArea (course_with e.s e.e e.grid s.step) (count_at o) (range_at o) c.steps status → Tells s c before after status

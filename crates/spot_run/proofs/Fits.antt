@@ -5,7 +5,7 @@ use Rattle.std.specs.List.{flat_map, AllByRecursion}
 use Rattle.std.proofs.lemmas.Int.{ints}
 use Rattle.spot_terms.specs.Lists.{Pairwise, numbers_from}
 use Rattle.spot_terms.specs.Whole.{SizeAtMost}
-use Rattle.spot_terms.specs.Ranges.{IsInRange, IsMoverInRange, IsFixedInRange, IsStart}
+use Rattle.spot_terms.specs.Ranges.{AreBuildable, IsMoverInRange, IsFixedInRange, IsStart}
 use Rattle.spot_terms.specs.Reach.{normals, along, disc_number, interval_numbers, disc_numbers}
 use Rattle.spot_terms.specs.Report.{Line, FitsLine, FitsPt, FitsCorners, FitsNumbers, IsReport, mover_line, late_line}
 use Rattle.spot_terms.specs.Cells.{Lane, cells}
@@ -25,7 +25,6 @@ use Rattle.spot_terms.proofs.ListLemmas.{below-from}
 use Rattle.convex_poly.specs.declared.oct_numbers.OctNumbers.{OctNumbers}
 use Rattle.convex_poly.specs.Polygons.{IsPosition}
 use Rattle.round_out.proofs.Discs.{disc_number_le}
-use Rattle.lanelets.specs.Buildable.{AreBuildable}
 use Rattle.acc_occupancy.proofs.Sizes.{along_within}
 use Rattle.acc_occupancy.proofs.Bodies.{interval_numbers_within}
 use Rattle.lane_occupancy.specs.Polygons.{polygon_of}
@@ -191,13 +190,14 @@ starting_in_range (m ∷ ms) range =
     elim (m.time == 0) as (λ t. AllByRecursion IsMoverInRange (cond t (m ∷ starting ms) (starting ms))) [ true ↦ (range.0, rest) | false ↦ rest ]
 
 -- a report with traffic is one whose text tells it, where what follows is
-pub fits_report : (mode : Mode) (s : Scenario) (steps : ℕ) (o : Occupancies) (more : List Line) → IsInRange s → AreBuildable s.lanelets.entries → steps ≤ 100 → IsPredicted s steps o → IsReport more → IsReport (report_lines mode s.step steps s.movers o more)
-fits_report mode s steps o more range buildable few predicted fits =
+pub fits_report : (mode : Mode) (s : Scenario) (steps : ℕ) (o : Occupancies) (more : List Line) → steps ≤ 100 → IsPredicted s steps o → IsReport more → IsReport (report_lines mode s.step steps s.movers o more)
+fits_report mode s steps o more few predicted fits =
+    let range = s.in_range in
     let lanes = s.lanelets.entries in
     let is = predicted.is in
     let low = range.step_low in
     let high = range.step_high in
-    let starts = starting_in_range s.movers range.movers in (
+    let starts = starting_in_range s.movers range.each_mover in (
       tt,
       (
         (omega (arith, high), omega (arith, few)),
@@ -205,9 +205,9 @@ fits_report mode s steps o more range buildable few predicted fits =
             (all_append FitsLine (obstacle_lines s.movers o.participants ++ map octagon_line o.fixed ++ flat_map lane_lines o.participants) (flat_map occupancy_lines o.participants)
             (all_append FitsLine (obstacle_lines s.movers o.participants ++ map octagon_line o.fixed) (flat_map lane_lines o.participants)
             (all_append FitsLine (obstacle_lines s.movers o.participants) (map octagon_line o.fixed)
-            (fits_obstacles lanes s.step steps s.movers o.participants range.movers is.participants)
-            (fits_fixed s.fixed o.fixed range.fixed is.fixed))
-            (fits_lanes lanes s.step steps (starting s.movers) o.participants buildable predicted.network few starts is.participants))
+            (fits_obstacles lanes s.step steps s.movers o.participants range.each_mover is.participants)
+            (fits_fixed s.fixed o.fixed range.each_fixed is.fixed))
+            (fits_lanes lanes s.step steps (starting s.movers) o.participants range.buildable predicted.network few starts is.participants))
             (fits_occupancies lanes s.step steps (starting s.movers) o.participants high few starts is.participants))
             fits,
       ),

@@ -1,7 +1,7 @@
 -- The area of an ego over the predicted traffic of its scenario: its pieces, and that all stages are passed.
 use Rattle.std.proofs.Common.{◌≡◌, subst, arith}
 use Rattle.spot_terms.specs.Courses.{Course}
-use Rattle.spot_terms.specs.Ranges.{IsCommandInRange, IsInRange}
+use Rattle.spot_terms.specs.Ranges.{IsCommandInRange}
 use Rattle.spot_terms.specs.RowBoxes.{IsWithinArea}
 use Rattle.spot_terms.specs.Tasks.{PredictsTraffic, FindsArea}
 use Rattle.spot_terms.specs.declared.command.Command.{Command}
@@ -24,12 +24,12 @@ use Rattle.spot_run.proofs.AreaTells.{passes_problem, passes_over}
 use Rattle.spot_run.proofs.Predictions.{within_traffic}
 
 -- a run can be opened over the prediction
-pub can_open : (s : Scenario) (c : Command) (e : EgoLine) (o : Occupancies) → HasEgo s c e → IsPredicted s c.steps o → IsInRange s → IsCommandInRange c → CanOpen s o.steps 40_000_000_000_000 e c.steps
-can_open s c e o ego predicted range few = record {
+pub can_open : (s : Scenario) (c : Command) (e : EgoLine) (o : Occupancies) → HasEgo s c e → IsPredicted s c.steps o → IsCommandInRange c → CanOpen s o.steps 40_000_000_000_000 e c.steps
+can_open s c e o ego predicted few = record {
   start = ego.is.start;
   bounds = ego.is.bounds;
   grid = ego.is.grid;
-  ticks = (range.step_low, range.step_high);
+  ticks = (s.in_range.step_low, s.in_range.step_high);
   fits = fits_of s c ego.problem e ego.is ego.slow;
   few = few.steps.1;
   last_in = omega (arith, predicted.is.horizon);

@@ -1,7 +1,7 @@
 -- What a prediction that was written tells of its command.
 use Rattle.std.proofs.Common.{◌≡◌, inl, inr, ℕ, ◌++◌, ◌∷◌, List, [], Option, refl, sym, subst, append-nil}
 use Rattle.spot_terms.specs.Ids.{HaveUniqueIds}
-use Rattle.spot_terms.specs.Ranges.{IsCommandInRange, IsInRange}
+use Rattle.spot_terms.specs.Ranges.{IsCommandInRange}
 use Rattle.spot_terms.specs.Report.{last_line}
 use Rattle.spot_terms.specs.Tasks.{PredictsTraffic, FindsArea}
 use Rattle.spot_terms.specs.declared.command.Command.{Command}
@@ -13,7 +13,6 @@ use Rattle.spot_terms.specs.declared.scenario.Scenario.{Scenario}
 use Rattle.spot_terms.specs.declared.status.Status.{Status}
 use Rattle.spot_terms.specs.declared.status.Status.TheVariants.{Open, Empty, Limit, WriteFault, Memory}
 use Rattle.spot_terms.specs.declared.status.Which.TheVariants.{TooManyCells, LaneTooWide, TooManyLanePolygons}
-use Rattle.lanelets.specs.Buildable.{AreBuildable}
 use Rattle.spot_claims.specs.Headline.{ClaimsOf}
 use Rattle.spot_claims.specs.Outcomes.{PassesAll}
 use Rattle.spot_claims.specs.Outputs.{IsOutputOf, IsOutput, status_of}
@@ -59,13 +58,13 @@ module _ (s : Scenario) (c : Command) (task : c.task ≡ Predict) where
   passes_all : (o : Occupancies) → IsPredicted s c.steps o → PassesAll s c
   passes_all o predicted = record { passing = passes; within = record { traffic = λ _. within_traffic s c o predicted; area = λ finds. absurd (finds_none finds) } }
 
-  module _ (range : IsInRange s) (lanes : AreBuildable s.lanelets.entries) (few : IsCommandInRange c) where
+  module _ (few : IsCommandInRange c) where
     is_output : (o : Occupancies) → IsPredicted s c.steps o → IsOutput s c (report_of s c.steps o) end.Done
     is_output o predicted = subst (λ (t : Task). IsOutputOf t s c (report_of s c.steps o) end.Done) (sym task) (
       record {
         lines = prediction_lines s.step c.steps s.movers o;
-        report = predict_report s c o range predicted.is;
-        fits = fits_report mode.Predict s c.steps o (last_line end.Done ∷ []) range lanes few.steps.1 predicted (tt, tt);
+        report = predict_report s c o predicted.is;
+        fits = fits_report mode.Predict s c.steps o (last_line end.Done ∷ []) few.steps.1 predicted (tt, tt);
         text_is = refl;
       },
       refl,
@@ -81,7 +80,7 @@ module _ (s : Scenario) (c : Command) (task : c.task ≡ Predict) where
       text_is = refl;
       claims = subst (λ (t : Task). ClaimsOf t s c (prediction_lines s.step c.steps s.movers o)) (sym task) (
         record { rest = traffic_lines s.movers o ++ last_line end.Done ∷ []; lines_are = refl },
-        traffic_covers mode.Predict (last_line end.Done ∷ []) done_is_other s c o range ids predicted,
+        traffic_covers mode.Predict (last_line end.Done ∷ []) done_is_other s c o ids predicted,
       );
     }
 

@@ -1,13 +1,13 @@
 -- The area that avoids recorded traffic: that all stages are passed, and what its report is and claims.
 use Rattle.std.proofs.Common.{◌≡◌, ◌∙◌, inl, inr, ℕ, suc, ◌+◌, ◌-◌, ◌==◌, ◌≤◌, List, [], ◌∷◌, ◌++◌, map, filter, length, refl, sym, ap, ap₂, subst, arith, ℤ, nat_abs}
-use Rattle.std.specs.List.{AllByRecursion, flat_map}
+use Rattle.std.specs.List.{flat_map}
 use Rattle.std.proofs.lemmas.Int.{ints}
 use Rattle.spot_terms.specs.BaseSets.{SetValue}
 use Rattle.spot_terms.specs.Courses.{Course}
 use Rattle.spot_terms.specs.Lists.{Includes}
 use Rattle.spot_terms.specs.OccupiedPieces.{discs, discs_of, fixed_disc, recorded_disc}
 use Rattle.spot_terms.specs.Pieces.{disc}
-use Rattle.spot_terms.specs.Ranges.{AreStatesInRange, IsCommandInRange, IsFixedInRange, IsInRange, IsMoverInRange, IsStateInRange}
+use Rattle.spot_terms.specs.Ranges.{AreStatesInRange, IsCommandInRange, IsFixedInRange, IsMoverInRange, IsStateInRange}
 use Rattle.spot_terms.specs.Report.{Line, EgoValue, head_line, time_line, ego_line, disc_line, last_line, report_text, FitsLine}
 use Rattle.spot_terms.specs.RowBoxes.{IsWithinArea}
 use Rattle.spot_terms.specs.StepLists.{AreStepLists}
@@ -58,19 +58,19 @@ disc_fits radius i d small few id r x y id_is x_is y_is r_is id_few r_few x_smal
   omega (arith, r_is, r_few, small),
 )
 
-module _ (s : Scenario) (range : IsInRange s) (states : AllByRecursion AreStatesInRange s.movers) (radius : ℕ) (small : radius ≤ 150_000_000) where
+module _ (s : Scenario) (radius : ℕ) (small : radius ≤ 150_000_000) where
   fixed_fits : (i : ℕ) (d : Disc) → i ≤ 100 → Includes (map (fixed_disc radius) s.fixed) d → FitsLine (disc_line i d.id d.p d.r)
   fixed_fits i d few among =
       let (f, k, e) = in_map (fixed_disc radius) s.fixed d among in
-      let is : IsFixedInRange f = all_included IsFixedInRange s.fixed f range.fixed k in
+      let is : IsFixedInRange f = all_included IsFixedInRange s.fixed f s.in_range.each_fixed k in
       disc_fits radius i d small few f.id f.inscribed f.x f.y (ap (λ (z : Disc). z.id) e) (ap (λ (z : Disc). z.p.x) e) (ap (λ (z : Disc). z.p.y) e) (ap (λ (z : Disc). z.r) e) is.id is.inscribed is.x is.y
 
   state_fits : (i : ℕ) (d : Disc) → i ≤ 100 → Includes (flat_map (discs_of radius i) s.movers) d → FitsLine (disc_line i d.id d.p d.r)
   state_fits i d few among =
       let (m, at, j) = in_flat_map (discs_of radius i) s.movers d among in
       let (state, k, e) = in_map (recorded_disc radius m) (filter (λ (x : ℕ × ℤ × ℤ). x.0 == i) m.recorded) d j in
-      let is : IsMoverInRange m = all_included IsMoverInRange s.movers m range.movers at in
-      let place : IsStateInRange state = all_included IsStateInRange m.recorded state (all_included AreStatesInRange s.movers m states at) (from_filter (λ (x : ℕ × ℤ × ℤ). x.0 == i) m.recorded state k) in
+      let is : IsMoverInRange m = all_included IsMoverInRange s.movers m s.in_range.each_mover at in
+      let place : IsStateInRange state = all_included IsStateInRange m.recorded state (all_included AreStatesInRange s.movers m s.in_range.each_state at) (from_filter (λ (x : ℕ × ℤ × ℤ). x.0 == i) m.recorded state k) in
       disc_fits radius i d small few m.id m.inscribed state.1 state.2 (ap (λ (z : Disc). z.id) e) (ap (λ (z : Disc). z.p.x) e) (ap (λ (z : Disc). z.p.y) e) (ap (λ (z : Disc). z.r) e) is.id is.inscribed place.x place.y
 
   discs_fit : (n : ℕ) → n ≤ 100 → DiscsFit (discs s radius) n
@@ -101,13 +101,13 @@ module _ (course : Course) (count : ℕ → ℕ) (Hits : ℕ → ℕ → Pt → 
 pub small_radius : (c : Command) → IsCommandInRange c → ego_radius c ≤ 150_000_000
 small_radius c range = let l = range.ego_length.1 in omega (arith, l)
 
-module _ (s : Scenario) (c : Command) (e : EgoLine) (r : DiscLists) (ego : HasEgo s c e) (recorded : IsRecorded s c r) (range : IsInRange s) (few : IsCommandInRange c) where
+module _ (s : Scenario) (c : Command) (e : EgoLine) (r : DiscLists) (ego : HasEgo s c e) (recorded : IsRecorded s c r) (few : IsCommandInRange c) where
   pub can_open : CanOpen s (length r - 1) 40_000_000_000_000 e c.steps
   can_open = record {
     start = ego.is.start;
     bounds = ego.is.bounds;
     grid = ego.is.grid;
-    ticks = (range.step_low, range.step_high);
+    ticks = (s.in_range.step_low, s.in_range.step_high);
     fits = fits_of s c ego.problem e ego.is ego.slow;
     few = few.steps.1;
     last_in = omega (arith, recorded.long);
@@ -116,7 +116,7 @@ module _ (s : Scenario) (c : Command) (e : EgoLine) (r : DiscLists) (ego : HasEg
 
 -- ---- the ego of the command, and the recorded traffic of the scenario
 
-module _ (s : Scenario) (c : Command) (task : c.task ≡ Replay) (e : EgoLine) (r : DiscLists) (ego : HasEgo s c e) (recorded : IsRecorded s c r) (range : IsInRange s) (states : AllByRecursion AreStatesInRange s.movers) (few : IsCommandInRange c) where
+module _ (s : Scenario) (c : Command) (task : c.task ≡ Replay) (e : EgoLine) (r : DiscLists) (ego : HasEgo s c e) (recorded : IsRecorded s c r) (few : IsCommandInRange c) where
   pieces_are : ArePieces s c (pieces_at r)
   pieces_are = pieces_replay s c (pieces_at r) task (λ i within. ap (λ (ds : List Disc). map (λ d. disc d.p d.r) ds) (recorded.discs_are i within))
 
@@ -136,15 +136,15 @@ module _ (s : Scenario) (c : Command) (task : c.task ≡ Replay) (e : EgoLine) (
   same_ego = ap₂ line_value ego.is.problem (ego.is.course s)
 
   good_course : IsCourse (course_of s c ego.problem)
-  good_course = over_course IsCourse (is_course e s.step ego.is.start ego.is.bounds ego.is.grid (range.step_low, range.step_high) (fits_of s c ego.problem e ego.is ego.slow))
+  good_course = over_course IsCourse (is_course e s.step ego.is.start ego.is.bounds ego.is.grid (s.in_range.step_low, s.in_range.step_high) (fits_of s c ego.problem e ego.is ego.slow))
 
   good_ego : FitsLine (ego_line (ego_of ego.problem (course_of s c ego.problem)))
   good_ego =
-      let id = (chosen_in_range c.problem s.problems ego.problem ego.is_chosen range.problems).id in
+      let id = (chosen_in_range c.problem s.problems ego.problem ego.is_chosen s.in_range.each_problem).id in
       subst (λ (x : EgoValue). FitsLine (ego_line x)) same_ego (ego_fits e (subst (λ (n : ℕ). n ≤ 4_294_967_295) (sym ego.is.problem) id) ego.is.start ego.is.bounds ego.is.grid)
 
   good_discs : DiscsFit (discs s (ego_radius c)) c.steps
-  good_discs = discs_fit s range states (ego_radius c) (small_radius c few) c.steps few.steps.1
+  good_discs = discs_fit s (ego_radius c) (small_radius c few) c.steps few.steps.1
 
   abbrev all_lines : List (List SetValue) → End → List Line
   all_lines lists ends = head_line mode.Replay ∷ time_line s.step c.steps ∷ area_lines ego.problem (course_of s c ego.problem) (discs s (ego_radius c)) lists ends
@@ -179,7 +179,7 @@ module _ (s : Scenario) (c : Command) (task : c.task ≡ Replay) (e : EgoLine) (
   -- ---- its text
 
   head_fits : FitsLine (time_line s.step c.steps)
-  head_fits = let k = range.step_high in let n = few.steps.1 in (omega (arith, k), omega (arith, n))
+  head_fits = let k = s.in_range.step_high in let n = few.steps.1 in (omega (arith, k), omega (arith, n))
 
   same_lines : (lists : List (List SetValue)) → AreFirst lists → lines_from (discs_at r) 0 lists ≡ lines_from (discs s (ego_radius c)) 0 lists
   same_lines lists are = lines_same (course_of s c ego.problem) (discs_count r) (discs_hits r) (discs_at r) (discs s (ego_radius c)) c.steps recorded.discs_are lists are

@@ -6,7 +6,7 @@ use Rattle.spot_terms.specs.Reach.{interval_numbers}
 use Rattle.spot_terms.specs.Report.{Line, mover_line, late_line, fixed_line, occ_line}
 use Rattle.spot_terms.specs.LanePolygons.{LanePolygon}
 use Rattle.spot_terms.specs.Participants.{starting}
-use Rattle.spot_terms.specs.Ranges.{IsInRange, IsMoverInRange}
+use Rattle.spot_terms.specs.Ranges.{IsMoverInRange}
 use Rattle.spot_terms.specs.declared.lines.MoverLine.{MoverLine}
 use Rattle.spot_terms.specs.declared.command.Command.{Command}
 use Rattle.spot_terms.specs.declared.scenario.Mover.{Mover}
@@ -119,12 +119,12 @@ all_occupancies s c (m ∷ ms) (p ∷ ps) pairs = ap₂ (λ (a b : List Line). a
 fixed_is : (f : Fixed) (o : ℕ × OctNumbers) → IsFixedOctagon f o → fixed_of f ≡ octagon_line o
 fixed_is f o h = sym (ap₂ (λ (id : ℕ) (ns : List ℤ). fixed_line id ns) h.0 h.1)
 
-pub is_traffic : (s : Scenario) (c : Command) (o : Occupancies) → IsInRange s → IsPrediction s c.steps o → IsTraffic s c (traffic_lines s.movers o)
-is_traffic s c o range is =
+pub is_traffic : (s : Scenario) (c : Command) (o : Occupancies) → IsPrediction s c.steps o → IsTraffic s c (traffic_lines s.movers o)
+is_traffic s c o is =
     let obstacles = obstacle_lines s.movers o.participants in
     let movers : movers_in obstacles ≡ map line_of o.participants = movers_are s s.step c.steps s.movers o.participants is.participants in record {
       obstacles = obstacles;
-      obstacles_are = obstacles_are s s.step c.steps s.movers o.participants range.movers is.participants;
+      obstacles_are = obstacles_are s s.step c.steps s.movers o.participants s.in_range.each_mover is.participants;
       polygons = map polygons_of o.participants;
       polygons_are = rw movers (polygons_are s c (starting s.movers) o.participants is.participants);
       lines_are = lines_are movers;
@@ -139,5 +139,5 @@ is_traffic s c o range is =
     lines_are movers = rw (movers, octagons) (ap₂ (λ (a b : List Line). obstacle_lines s.movers o.participants ++ map fixed_of s.fixed ++ a ++ b) (all_polygons o.participants)
         (all_occupancies s c (starting s.movers) o.participants is.participants))
 
-pub predict_report : (s : Scenario) (c : Command) (o : Occupancies) → IsInRange s → IsPrediction s c.steps o → IsPredictReport s c (prediction_lines s.step c.steps s.movers o)
-predict_report s c o range is = record { traffic = traffic_lines s.movers o; traffic_is = is_traffic s c o range is; lines_are = refl }
+pub predict_report : (s : Scenario) (c : Command) (o : Occupancies) → IsPrediction s c.steps o → IsPredictReport s c (prediction_lines s.step c.steps s.movers o)
+predict_report s c o is = record { traffic = traffic_lines s.movers o; traffic_is = is_traffic s c o is; lines_are = refl }

@@ -8,7 +8,7 @@ use Rattle.spot_terms.specs.Lists.{Includes}
 use Rattle.spot_terms.specs.Motions.{State}
 use Rattle.spot_terms.specs.OccupiedPieces.{discs}
 use Rattle.spot_terms.specs.Participants.{FollowsLanes}
-use Rattle.spot_terms.specs.Ranges.{IsCommandInRange, IsInRange}
+use Rattle.spot_terms.specs.Ranges.{IsCommandInRange}
 use Rattle.spot_terms.specs.Report.{Line, EgoValue, head_line, time_line}
 use Rattle.spot_terms.specs.Statuses.{IsDone}
 use Rattle.spot_terms.specs.Tasks.{ReadsInput}
@@ -126,7 +126,6 @@ alike bytes s t (tree, tree_is, is) (other, other_is, also) =
 pub record HasLoaded (run : Run) (c : Command) (s : Scenario) : Type 0 where
   pub for : IsForCommand run c
   pub reads : ReadsInput c.task
-  pub range : IsInRange s
   pub told : (bytes : List ℕ) → run.told ≡ Some bytes → IsReadWhole bytes run.left × IsScenarioOf bytes s
   pub tells : Tells s c run.before run.after run.status
   pub cause : run.status ≡ WriteFault → WriteFails run
@@ -313,7 +312,7 @@ tight run c s h = λ d old stands told before_is done.
         scenario_is = (h.told bytes told_is).1;
         text = w.front;
         appended = grown;
-        tight = output_tight s c h.range h.for.range w.passes w.front whole.ends whole.output;
+        tight = output_tight s c h.for.range w.passes w.front whole.ends whole.output;
       },
     )
 

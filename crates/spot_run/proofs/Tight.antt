@@ -3,7 +3,7 @@ use Rattle.std.proofs.Common.{◌≡◌, ◌∙◌, ℕ, ◌*◌, ◌≤◌, ari
 use Rattle.std.proofs.lemmas.Int.{ints}
 use lib.IntN.{ℤ, pos}
 use lib.Signed.{◌<ℤ◌}
-use Rattle.spot_terms.specs.Ranges.{IsCommandInRange, IsInRange}
+use Rattle.spot_terms.specs.Ranges.{IsCommandInRange}
 use Rattle.spot_terms.specs.Tasks.{FindsArea}
 use Rattle.spot_terms.specs.TwoSided.{IsUsable}
 use Rattle.spot_terms.specs.declared.command.Command.{Command}
@@ -23,7 +23,7 @@ use Rattle.spot_claims.specs.Tight.{IsTightOf}
 kilometres : (n : ℕ) → 100 ≤ n → pos 0 <ℤ pos (1000 * n)
 kilometres n h = omega (arith, ints, h)
 
-module _ (s : Scenario) (c : Command) (range : IsInRange s) (few : IsCommandInRange c) (passes : PassesAll s c) where
+module _ (s : Scenario) (c : Command) (few : IsCommandInRange c) (passes : PassesAll s c) where
   -- the problem that is chosen is slow enough
   slow : FindsArea c.task → (p : Problem) → IsChosen s c p → IsSlowEnough c p
   slow finds p is =
@@ -33,7 +33,7 @@ module _ (s : Scenario) (c : Command) (range : IsInRange s) (few : IsCommandInRa
   usable : FindsArea c.task → (p : Problem) → IsChosen s c p → IsUsable (course_of s c p)
   usable finds p is = record {
     accelerates = few.ego_acc.0;
-    ticks = range.step_low;
+    ticks = s.in_range.step_low;
     columns = kilometres c.cell_x few.cell_x.0;
     rows = kilometres c.cell_y few.cell_y.0;
     fits = slow finds p is;

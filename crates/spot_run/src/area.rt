@@ -3,7 +3,6 @@
 
 ghost use Rattle.std.specs.Prelude.{◌≡◌, ℕ, ◌≤◌, List, [], ◌++◌, length, IfOk, IfErr};
 ghost use Rattle.std.specs.List.{AllByRecursion};
-ghost use Rattle.lanelets.specs.Buildable.{AreBuildable};
 ghost use Rattle.base_sets.specs.Values.{course_with};
 ghost use Rattle.area_run.specs.Plans.{course_of, plan_with};
 ghost use Rattle.area_run.specs.Running.{IsOpened, IsVerdict};
@@ -13,7 +12,7 @@ ghost use Rattle.spot_io.specs.Writes.{WritesText};
 ghost use Rattle.spot_terms.specs.Causes.{Rose};
 ghost use Rattle.spot_terms.specs.Ids.{HaveUniqueIds};
 ghost use Rattle.spot_terms.specs.Participants.{starting};
-ghost use Rattle.spot_terms.specs.Ranges.{IsCommandInRange, IsInRange};
+ghost use Rattle.spot_terms.specs.Ranges.{IsCommandInRange};
 ghost use Rattle.spot_terms.specs.RowBoxes.{IsWithinArea};
 ghost use Rattle.spot_terms.specs.StepLists.{IsFirstList};
 ghost use Rattle.spot_terms.specs.declared.command.Task.TheVariants.{Area};
@@ -123,9 +122,7 @@ fn write_over<K: Sink>(
     ego: &EgoLine,
     sink: &mut K,
 ) -> Status
-    requires range { IsInRange scenario.now }
     requires ids { HaveUniqueIds scenario.now }
-    requires lanes { AreBuildable scenario.now.lanelets.entries }
     requires command { IsCommandInRange command.now }
     requires task { command.now.task ≡ Area }
     requires predicted { IsPredicted scenario.now command.now.steps prediction.now }
@@ -158,9 +155,7 @@ pub(crate) fn write_area_report<K: Sink>(
     command: &Command,
     sink: &mut K,
 ) -> Status
-    requires range { IsInRange scenario.now }
     requires ids { HaveUniqueIds scenario.now }
-    requires lanes { AreBuildable scenario.now.lanelets.entries }
     requires command { IsCommandInRange command.now }
     requires task { command.now.task ≡ Area }
     requires room { TakesFor scenario.now command.now (λ n. K.takes sink.old n) }

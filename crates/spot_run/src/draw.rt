@@ -3,7 +3,6 @@
 
 ghost use Rattle.std.specs.Prelude.{◌≡◌, ◌<◌, ◌≤◌, Some, length, map, option_map, slice_get, IfOk};
 ghost use Rattle.std.specs.List.{AllByRecursion};
-ghost use Rattle.lanelets.specs.Buildable.{AreBuildable};
 ghost use Rattle.area_run.specs.Plans.{course_of};
 ghost use Rattle.area_report.specs.Egos.{HasEgo};
 ghost use Rattle.participants.specs.Pieces.{pieces_at};
@@ -12,7 +11,7 @@ ghost use Rattle.spot_io.specs.Writes.{WritesText};
 ghost use Rattle.spot_terms.specs.Causes.{Rose};
 ghost use Rattle.spot_terms.specs.Drawings.{shape_of as drawn_piece};
 ghost use Rattle.spot_terms.specs.Pieces.{octagon as octagon_piece};
-ghost use Rattle.spot_terms.specs.Ranges.{IsCommandInRange, IsInRange};
+ghost use Rattle.spot_terms.specs.Ranges.{IsCommandInRange};
 ghost use Rattle.spot_terms.specs.declared.command.Task.TheVariants.{Draw};
 ghost use Rattle.spot_terms.specs.declared.status.Status.TheVariants.{WriteFault};
 ghost use Rattle.spot_claims.specs.Outputs.{IsWritten};
@@ -94,8 +93,6 @@ fn draw_over<K: Sink>(
     ego: &EgoLine,
     sink: &mut K,
 ) -> Status
-    requires range { IsInRange scenario.now }
-    requires lanes { AreBuildable scenario.now.lanelets.entries }
     requires command { IsCommandInRange command.now }
     requires task { command.now.task ≡ Draw }
     requires predicted { IsPredicted scenario.now command.now.steps prediction.now }
@@ -131,8 +128,6 @@ pub(crate) fn write_drawing<K: Sink>(
     command: &Command,
     sink: &mut K,
 ) -> Status
-    requires range { IsInRange scenario.now }
-    requires lanes { AreBuildable scenario.now.lanelets.entries }
     requires command { IsCommandInRange command.now }
     requires task { command.now.task ≡ Draw }
     requires room { TakesFor scenario.now command.now (λ n. K.takes sink.old n) }

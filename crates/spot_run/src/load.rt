@@ -1,11 +1,8 @@
 //! From a source to a scenario.
 
 ghost use Rattle.std.specs.Prelude.{◌≡◌, ℕ, ◌≤◌, List, Some, IfOk, IfErr, IsErrOf};
-ghost use Rattle.std.specs.List.{AllByRecursion};
-ghost use Rattle.lanelets.specs.Buildable.{AreBuildable};
 ghost use Rattle.spot_terms.specs.Causes.{Rose};
 ghost use Rattle.spot_terms.specs.Ids.{HaveUniqueIds};
-ghost use Rattle.spot_terms.specs.Ranges.{AreStatesInRange, IsFew, IsInRange};
 ghost use Rattle.spot_claims.specs.Scenario.{IsScenario, IsScenarioOf};
 ghost use Rattle.spot_run.specs.Loads.{Loads, IsLoadFault, HasNone};
 
@@ -18,11 +15,7 @@ use std::alloc::Global;
 // The scenario of a tree, or the status that says why there is none.
 pub(crate) fn scenario_of(alloc: Global, tree: &Tree) -> Result<Scenario, Status>
     ensures scenario { IfOk result (λ s. IsScenario tree.now s) }
-    ensures range { IfOk result (λ s. IsInRange s) }
     ensures ids { IfOk result (λ s. HaveUniqueIds s) }
-    ensures lanes { IfOk result (λ s. AreBuildable s.lanelets.entries) }
-    ensures few { IfOk result (λ s. IsFew s) }
-    ensures states { IfOk result (λ s. AllByRecursion AreStatesInRange s.movers) }
     ensures none { IfErr result (λ status. HasNone tree.now status) }
 {
     match read_scenario(alloc, tree) {
@@ -36,11 +29,7 @@ pub(crate) fn scenario_of(alloc: Global, tree: &Tree) -> Result<Scenario, Status
 pub fn load<S: Source>(alloc: Global, source: &mut S) -> Result<Scenario, Status>
     ensures told { (bytes : List ℕ) → S.left source.old ≡ Some bytes → Loads bytes (S.left source.new) result }
     ensures scenario { IfOk result (λ s. (bytes : List ℕ) × IsScenarioOf bytes s) }
-    ensures range { IfOk result (λ s. IsInRange s) }
     ensures ids { IfOk result (λ s. HaveUniqueIds s) }
-    ensures lanes { IfOk result (λ s. AreBuildable s.lanelets.entries) }
-    ensures few { IfOk result (λ s. IsFew s) }
-    ensures states { IfOk result (λ s. AllByRecursion AreStatesInRange s.movers) }
     ensures answers { IfErr result (λ status. IsLoadFault status) }
     ensures later { S.faults source.old ≤ S.faults source.new }
     ensures fault { IsErrOf result Status.ReadFault → Rose (S.faults source.old) (S.faults source.new) }

@@ -2,14 +2,13 @@
 //! sets. All memory is taken before the first byte is written.
 
 ghost use Rattle.std.specs.Prelude.{◌≡◌, ℕ, ◌≤◌, List, ◌++◌, length, IfOk, IfErr};
-ghost use Rattle.std.specs.List.{AllByRecursion};
 ghost use Rattle.area_run.specs.Plans.{course_of};
 ghost use Rattle.area_report.specs.Areas.{IsStepsText};
 ghost use Rattle.area_report.specs.Egos.{HasEgo};
 ghost use Rattle.replay_sets.specs.Discs.{discs_at};
 ghost use Rattle.spot_io.specs.Writes.{WritesText};
 ghost use Rattle.spot_terms.specs.Causes.{Rose};
-ghost use Rattle.spot_terms.specs.Ranges.{AreStatesInRange, IsCommandInRange, IsFew, IsInRange};
+ghost use Rattle.spot_terms.specs.Ranges.{IsCommandInRange};
 ghost use Rattle.spot_terms.specs.StepLists.{IsFirstList};
 ghost use Rattle.spot_terms.specs.declared.command.Task.TheVariants.{Replay};
 ghost use Rattle.spot_terms.specs.declared.status.Status.TheVariants.{WriteFault, Memory};
@@ -38,9 +37,6 @@ fn radius_of(command: &Command) -> u64
 
 // The recorded traffic of a scenario for the ego of a command, or the status where memory is wanted.
 fn recorded_of(alloc: Global, scenario: &Scenario, command: &Command) -> Result<Recorded, Status>
-    requires range { IsInRange scenario.now }
-    requires few { IsFew scenario.now }
-    requires states { AllByRecursion AreStatesInRange scenario.now.movers }
     requires command { IsCommandInRange command.now }
     ensures ok { IfOk result (IsRecorded scenario.now command.now) }
     ensures err { IfErr result (λ status. status ≡ Memory) }
@@ -93,8 +89,6 @@ fn write_over<K: Sink>(
     ego: &EgoLine,
     sink: &mut K,
 ) -> Status
-    requires range { IsInRange scenario.now }
-    requires states { AllByRecursion AreStatesInRange scenario.now.movers }
     requires command { IsCommandInRange command.now }
     requires task { command.now.task ≡ Replay }
     requires recorded { IsRecorded scenario.now command.now recorded.now }
@@ -127,9 +121,6 @@ pub(crate) fn write_replay<K: Sink>(
     command: &Command,
     sink: &mut K,
 ) -> Status
-    requires range { IsInRange scenario.now }
-    requires few { IsFew scenario.now }
-    requires states { AllByRecursion AreStatesInRange scenario.now.movers }
     requires command { IsCommandInRange command.now }
     requires task { command.now.task ≡ Replay }
     requires room { TakesFor scenario.now command.now (λ n. K.takes sink.old n) }

@@ -1,11 +1,9 @@
 //! The top call.
 
 ghost use Rattle.std.specs.Prelude.{◌≡◌, ◌↔◌, ◌≤◌, IsTrue};
-ghost use Rattle.std.specs.List.{AllByRecursion};
-ghost use Rattle.lanelets.specs.Buildable.{AreBuildable};
 ghost use Rattle.spot_terms.specs.Causes.{Rose};
 ghost use Rattle.spot_terms.specs.Ids.{HaveUniqueIds};
-ghost use Rattle.spot_terms.specs.Ranges.{AreStatesInRange, IsCommandInRange, IsFew, IsInRange};
+ghost use Rattle.spot_terms.specs.Ranges.{IsCommandInRange};
 ghost use Rattle.spot_terms.specs.Tasks.{ReadsInput};
 ghost use Rattle.spot_run.specs.RunOf.{run_of};
 ghost use Rattle.spot_run.specs.Tells.{TakesFor, Tells};
@@ -32,8 +30,6 @@ use std::alloc::Global;
 
 // Predicts a scenario and writes the report.
 fn write_report<K: Sink>(alloc: Global, scenario: &Scenario, steps: u32, sink: &mut K) -> Status
-    requires range { IsInRange scenario.now }
-    requires lanes { AreBuildable scenario.now.lanelets.entries }
     requires steps { (1 ≤ steps) × (steps ≤ MOST_STEPS) }
     requires room { TakesPrediction scenario.now steps (λ n. K.takes sink.old n) }
     ensures report { WritesPrediction scenario.now steps (K.written sink.old) (K.written sink.new) result }
@@ -68,11 +64,7 @@ fn write_output<K: Sink>(
     command: &Command,
     sink: &mut K,
 ) -> Status
-    requires range { IsInRange scenario.now }
     requires ids { HaveUniqueIds scenario.now }
-    requires lanes { AreBuildable scenario.now.lanelets.entries }
-    requires few { IsFew scenario.now }
-    requires states { AllByRecursion AreStatesInRange scenario.now.movers }
     requires command { IsCommandInRange command.now }
     requires reads { ReadsInput command.now.task }
     requires room { TakesFor scenario.now command.now (λ n. K.takes sink.old n) }

@@ -3,10 +3,9 @@
 
 ghost use Rattle.std.specs.Prelude.{◌≡◌, ◌≤◌, List, length, IfOk, IfErr};
 ghost use Rattle.base_sets.specs.Values.{course_with};
-ghost use Rattle.lanelets.specs.Buildable.{AreBuildable};
 ghost use Rattle.area_report.specs.Egos.{HasEgo};
 ghost use Rattle.spot_terms.specs.Causes.{Rose};
-ghost use Rattle.spot_terms.specs.Ranges.{IsCommandInRange, IsInRange};
+ghost use Rattle.spot_terms.specs.Ranges.{IsCommandInRange};
 ghost use Rattle.spot_terms.specs.declared.command.Task.TheVariants.{Sample};
 ghost use Rattle.spot_terms.specs.declared.status.Status.TheVariants.{WriteFault, Memory};
 ghost use Rattle.spot_claims.specs.Outputs.{IsWritten};
@@ -35,8 +34,6 @@ fn scenario_in(alloc: Global, text: &[u8]) -> Result<Scenario, Status>
     requires short { length text.now ≤ MOST_BYTES }
     requires accepted { (tree : List Element) × IsSample text.now tree }
     ensures scenario { IfOk result (λ s. IsScenarioOf text.now s) }
-    ensures range { IfOk result (λ s. IsInRange s) }
-    ensures lanes { IfOk result (λ s. AreBuildable s.lanelets.entries) }
     ensures memory { IfErr result (λ status. status ≡ Memory) }
 {
     match read_tree(alloc, text) {
@@ -52,8 +49,6 @@ fn made_of(alloc: Global, command: &Command) -> Result<(Scenario, u64), Status>
     requires command { IsCommandInRange command.now }
     ensures scenario { IfOk result (λ made. IsMade command.now made.0) }
     ensures bytes { IfOk result (λ made. made.1 ≡ length (text_of command.now)) }
-    ensures range { IfOk result (λ made. IsInRange made.0) }
-    ensures lanes { IfOk result (λ made. AreBuildable made.0.lanelets.entries) }
     ensures memory { IfErr result (λ status. status ≡ Memory) }
 {
     let text = match make(alloc, command.seed, command.lanes, command.movers) {
@@ -74,8 +69,6 @@ fn total_over(
     prediction: &Prediction,
     ego: &EgoLine,
 ) -> Result<Total, Status>
-    requires range { IsInRange scenario.now }
-    requires lanes { AreBuildable scenario.now.lanelets.entries }
     requires command { IsCommandInRange command.now }
     requires predicted { IsPredicted scenario.now command.now.steps prediction.now }
     requires ego { HasEgo scenario.now command.now ego.now }
@@ -98,8 +91,6 @@ fn summary_of(
     command: &Command,
     bytes: u64,
 ) -> Result<Summary, Status>
-    requires range { IsInRange scenario.now }
-    requires lanes { AreBuildable scenario.now.lanelets.entries }
     requires command { IsCommandInRange command.now }
     requires task { command.now.task ≡ Sample }
     ensures ok { IfOk result (IsSummed scenario.now command.now bytes) }
@@ -140,8 +131,6 @@ fn write_made<K: Sink>(
     bytes: u64,
     sink: &mut K,
 ) -> Status
-    requires range { IsInRange scenario.now }
-    requires lanes { AreBuildable scenario.now.lanelets.entries }
     requires command { IsCommandInRange command.now }
     requires task { command.now.task ≡ Sample }
     requires bytes { bytes ≡ length (text_of command.now) }

@@ -1,9 +1,7 @@
 //! The traffic of a scenario: its network, and the prediction of its participants.
 
 ghost use Rattle.std.specs.Prelude.{◌≡◌, ℕ, ◌≤◌, IfOk, IfErr};
-ghost use Rattle.lanelets.specs.Buildable.{AreBuildable};
 ghost use Rattle.spot_terms.specs.Limits.{HasNetwork};
-ghost use Rattle.spot_terms.specs.Ranges.{IsInRange};
 ghost use Rattle.spot_run.specs.Writes.{IsPastLimit, IsPredicted};
 
 use lanelets::{NetFault, Network, build};
@@ -13,7 +11,6 @@ use std::alloc::Global;
 
 // The network of a scenario, or the status that says why there is none.
 pub(crate) fn network_of(alloc: Global, scenario: &Scenario) -> Result<Network, Status>
-    requires { AreBuildable scenario.now.lanelets.entries }
     ensures ok { IfOk result (λ net. (net ≡ scenario.now.lanelets.entries) × HasNetwork scenario.now.lanelets.entries) }
     ensures err { IfErr result (λ status. (steps : ℕ) → IsPastLimit scenario.now steps status) }
 {
@@ -32,7 +29,6 @@ pub(crate) fn predict_over(
     net: &Network,
     steps: u32,
 ) -> Result<Prediction, Status>
-    requires range { IsInRange scenario.now }
     requires network { net.now ≡ scenario.now.lanelets.entries }
     requires built { HasNetwork scenario.now.lanelets.entries }
     requires steps { (1 ≤ steps) × (steps ≤ MOST_STEPS) }
@@ -54,8 +50,6 @@ pub(crate) fn prediction_of(
     scenario: &Scenario,
     steps: u32,
 ) -> Result<Prediction, Status>
-    requires range { IsInRange scenario.now }
-    requires lanes { AreBuildable scenario.now.lanelets.entries }
     requires steps { (1 ≤ steps) × (steps ≤ MOST_STEPS) }
     ensures ok { IfOk result (λ p. IsPredicted scenario.now steps p) }
     ensures err { IfErr result (λ status. IsPastLimit scenario.now steps status) }

@@ -6,12 +6,10 @@ use Rattle.spot_terms.specs.Whole.{Within, SizeAtMost}
 use Rattle.spot_terms.specs.declared.command.Command.{Command}
 use Rattle.spot_terms.specs.declared.plain.VBox.{VBox}
 use Rattle.spot_terms.specs.declared.plain.AccStart.{AccStart}
-use Rattle.spot_terms.specs.declared.scenario.RawLane.{RawLane}
 use Rattle.spot_terms.specs.declared.scenario.Mover.{Mover}
 use Rattle.spot_terms.specs.declared.scenario.Fixed.{Fixed}
 use Rattle.spot_terms.specs.declared.scenario.Problem.{Problem}
 use Rattle.spot_terms.specs.declared.scenario.RawLane.{RawLane}
-use Rattle.spot_terms.specs.declared.scenario.Scenario.{Scenario}
 
 -- a box of velocities: in order, and each end at most m in size
 pub record IsBoxWithin (m : ℕ) (b : VBox) : Type 0 where
@@ -81,15 +79,6 @@ pub record IsLaneInRange (l : RawLane) : Type 0 where
   pub left : AllByRecursion IsPairInRange l.left
   pub right : AllByRecursion IsPairInRange l.right
 
--- the step, the obstacles and the problems of an accepted scenario
-pub record IsInRange (s : Scenario) : Type 0 where
-  pub step_low : 1 ≤ s.step
-  pub step_high : s.step ≤ 1000
-  pub few : length s.movers + length s.fixed ≤ MOST_OBSTACLES
-  pub movers : AllByRecursion IsMoverInRange s.movers
-  pub fixed : AllByRecursion IsFixedInRange s.fixed
-  pub problems : AllByRecursion IsProblemInRange s.problems
-
 -- ---- how much there may be
 
 -- how many states are recorded of all dynamic obstacles
@@ -106,10 +95,24 @@ abbrev pub lanes_size : List (ℕ × RawLane) → ℕ
 lanes_size [] = 0
 lanes_size (l ∷ ls) = lane_size l.1 + lanes_size ls
 
--- recorded states and problems together, and points and references of all lanelets together
-pub record IsFew (s : Scenario) : Type 0 where
-  pub recorded : recorded_count s.movers + length s.problems ≤ MOST_BYTES
-  pub lanes : lanes_size s.lanelets.entries ≤ MOST_BYTES
+-- lanelets of which a network can be built; they have few points and references together
+pub record AreBuildable (lanes : List (ℕ × RawLane)) : Type 0 where
+  pub each : AllByRecursion (λ l. IsLaneInRange l.1) lanes
+  pub few : lanes_size lanes ≤ MOST_BYTES
+
+-- ---- a scenario
+
+-- the values of an accepted scenario: its step, its lanelets, its obstacles and its problems; there are few of all together
+pub record IsInRange (step : ℕ) (lanelets : List (ℕ × RawLane)) (movers : List Mover) (fixed : List Fixed) (problems : List Problem) : Type 0 where
+  pub step_low : 1 ≤ step
+  pub step_high : step ≤ 1000
+  pub few : length movers + length fixed ≤ MOST_OBSTACLES
+  pub few_recorded : recorded_count movers + length problems ≤ MOST_BYTES
+  pub buildable : AreBuildable lanelets
+  pub each_mover : AllByRecursion IsMoverInRange movers
+  pub each_state : AllByRecursion AreStatesInRange movers
+  pub each_fixed : AllByRecursion IsFixedInRange fixed
+  pub each_problem : AllByRecursion IsProblemInRange problems
 
 -- ---- commands
 

@@ -1,5 +1,8 @@
 //! What a scenario holds.
 
+ghost use Rattle.std.proofs.Props.{props};
+ghost use Rattle.spot_terms.specs.Ranges.{IsInRange};
+
 use crate::lists::{IdList, Items, PtList, StateList};
 use indexmap::IndexMap;
 
@@ -106,6 +109,11 @@ pub type FixedList = Items<Fixed>;
 pub type Problems = Items<Problem>;
 
 /// What is read of an accepted tree, each list in document order.
+///
+/// All values are in the ranges of the profile: a step has 1 to 1,000 ticks, positions are at most 10^13 µm in size, radii at
+/// most 250,000,000 µm, speeds at most 200,000 mm/s and angles at most 7,000,000 µrad in size, times at most 1,000,000 steps. The
+/// two bounds of a lanelet have as many points, at least two. There are at most 4,096 obstacles; recorded states and problems
+/// are at most 67,108,864 together, and so are points and references of all lanelets.
 #[derive(Drop)]
 pub struct Scenario {
     /// The number of ticks of a step, a tick being 1 ms.
@@ -118,4 +126,5 @@ pub struct Scenario {
     pub fixed: FixedList,
     /// The planning problems.
     pub problems: Problems,
+    pub ghost in_range: { IsInRange step lanelets.entries movers fixed problems } by { Prim.hlevel props },
 }

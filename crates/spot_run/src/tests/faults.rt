@@ -1,6 +1,8 @@
-//! A source and a sink that fail at one call, at each in turn, and bytes that are cut.
+//! A source and a sink that fail at one call, at each in turn, or at all, and bytes that are cut, nested, or no text.
 
 use super::*;
+use spot_io::{StdSink, StdSource};
+use std::io::{self, ErrorKind, Read, Write};
 
 // Whether the run ends by a read fault, and nothing is written, whichever call of the source fails.
 fn no_read_fault_writes(alloc: Global, line: &[&str], bytes: &[u8]) -> Result<bool, Fail> {
@@ -83,5 +85,82 @@ fn bytes_that_are_cut_are_no_json(rt: HostRuntime) -> Result<(), Fail> {
     longer.push(b'x')?;
     let behind = is_no_json(rt.alloc(), &line, longer.as_slice())?;
     assert!(rt; behind);
+    Ok(())
+}
+
+// A reader and a writer whose calls all fail.
+#[derive(Drop)]
+struct Failing;
+
+impl Read for Failing {
+    fn read(&mut self, _into: &mut [u8]) -> io::Result<usize> {
+        Err(io::Error::from(ErrorKind::BrokenPipe))
+    }
+}
+
+impl Write for Failing {
+    fn write(&mut self, _piece: &[u8]) -> io::Result<usize> {
+        Err(io::Error::from(ErrorKind::BrokenPipe))
+    }
+
+    fn flush(&mut self) -> io::Result<()> {
+        Err(io::Error::from(ErrorKind::BrokenPipe))
+    }
+}
+
+#[test]
+fn a_reader_that_fails_is_a_read_fault(rt: HostRuntime) -> Result<(), Fail> {
+    let words = words(rt.alloc(), &["spot", "predict", "--steps", "1"])?;
+    let mut source = StdSource {
+        inner: Failing,
+        count: 0,
+    };
+    let mut sink = mem_sink(rt.alloc(), 2000, 16, &[])?;
+    let status = run_spot(rt.alloc(), &words, &mut source, &mut sink);
+    assert_eq!(rt; status, Status::ReadFault);
+    assert_eq!(rt; source.count, 1);
+    assert_eq!(rt; sink.calls, 0);
+    Ok(())
+}
+
+#[test]
+fn a_writer_that_fails_is_a_write_fault(rt: HostRuntime) -> Result<(), Fail> {
+    let words = words(rt.alloc(), &["spot", "predict", "--steps", "1"])?;
+    let mut source = mem_source(rt.alloc(), CIRCLE, 16, &[])?;
+    let mut sink = StdSink {
+        inner: Failing,
+        count: 0,
+    };
+    let status = run_spot(rt.alloc(), &words, &mut source, &mut sink);
+    assert_eq!(rt; status, Status::WriteFault);
+    assert_eq!(rt; sink.count, 1);
+    Ok(())
+}
+
+// So many elements, each inside the one before.
+fn nested(alloc: Global, depth: usize) -> Result<Vec<u8>, Fail> {
+    let mut bytes = Vec::new(alloc);
+    bytes.extend_from_slice(b"[\"a\"")?;
+    for _ in 1..depth {
+        bytes.extend_from_slice(b",[\"a\"")?;
+    }
+    for _ in 0..depth {
+        bytes.push(b']')?;
+    }
+    Ok(bytes)
+}
+
+#[test]
+fn texts_that_are_nested_too_deep_or_no_text(rt: HostRuntime) -> Result<(), Fail> {
+    let line = ["spot", "predict", "--steps", "1"];
+    let deepest = nested(rt.alloc(), 127)?;
+    let (status, sink) = run(rt.alloc(), &line, deepest.as_slice(), &[], &[])?;
+    assert_eq!(rt; status, Status::Refused(Code::Root, 0));
+    assert_eq!(rt; sink.calls, 0);
+    let deeper = nested(rt.alloc(), 128)?;
+    let no_json = is_no_json(rt.alloc(), &line, deeper.as_slice())?;
+    assert!(rt; no_json);
+    let no_text = is_no_json(rt.alloc(), &line, b"[\"a\xff\"]")?;
+    assert!(rt; no_text);
     Ok(())
 }

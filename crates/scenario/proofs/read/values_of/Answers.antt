@@ -8,27 +8,23 @@ use Rattle.scenario.proofs.read.values_of.Goals as goal
 use Rattle.spot_terms.proofs.ListLemmas.{pairwise_length}
 use Rattle.scenario.proofs.Few.{few_obstacles}
 
-pub returns-clause-in_range : goal.returns-clause-in_range
-returns-clause-in_range c =
+pub invariant_of-result : goal.invariant_of-result
+invariant_of-result c =
     let n = pairwise_length (IsMover c.args.tree.now) (at_path c.args.tree.now dynamics) c.in_ok-movers_in.field-0 c.in_ok-movers_in.ensures.are in
     let m = pairwise_length (IsFixed c.args.tree.now) (at_path c.args.tree.now statics) c.in_ok-fixed_in.field-0 c.in_ok-fixed_in.ensures.are in
     record {
-      step_low = c.step_of.ensures.low;
-      step_high = c.step_of.ensures.high;
-      few = omega (arith, n, m, few_obstacles c.args.tree.now c.requires c.len.ensures.tree);
-      movers = c.in_ok-movers_in.ensures.within;
-      fixed = c.in_ok-fixed_in.ensures.within;
-      problems = c.in_ok-problems_in.ensures.within;
+      in_range = record {
+        step_low = c.step_of.ensures.low;
+        step_high = c.step_of.ensures.high;
+        few = omega (arith, n, m, few_obstacles c.args.tree.now c.requires c.len.ensures.tree);
+        few_recorded = few_recorded c.args.tree.now c.len.ensures.tree c.in_ok-movers_in.field-0 c.in_ok-problems_in.field-0 c.in_ok-movers_in.ensures.are c.in_ok-problems_in.ensures.are;
+        buildable = record { each = c.in_ok-lanes_of.ensures.within; few = few_held c.args.tree.now c.len.ensures.tree _ c.in_ok-lanes_of.ensures.are };
+        each_mover = c.in_ok-movers_in.ensures.within;
+        each_state = states_in_range c.args.tree.now c.requires c.in_ok-movers_in.field-0 c.in_ok-movers_in.ensures.are;
+        each_fixed = c.in_ok-fixed_in.ensures.within;
+        each_problem = c.in_ok-problems_in.ensures.within;
+      };
     }
-
-pub returns-clause-recorded : goal.returns-clause-recorded
-returns-clause-recorded c = states_in_range c.args.tree.now c.requires c.in_ok-movers_in.field-0 c.in_ok-movers_in.ensures.are
 
 pub returns-clause-ids : goal.returns-clause-ids
 returns-clause-ids c = unique_ids c.args.tree.now c.requires c.len.ensures.tree _ c.in_ok-lanes_of.ensures.are c.in_ok-movers_in.ensures.are c.in_ok-fixed_in.ensures.are c.in_ok-problems_in.ensures.are
-
-pub returns-clause-few : goal.returns-clause-few
-returns-clause-few c = record {
-  recorded = few_recorded c.args.tree.now c.len.ensures.tree c.in_ok-movers_in.field-0 c.in_ok-problems_in.field-0 c.in_ok-movers_in.ensures.are c.in_ok-problems_in.ensures.are;
-  lanes = few_held c.args.tree.now c.len.ensures.tree _ c.in_ok-lanes_of.ensures.are;
-}

@@ -11,7 +11,7 @@ use Rattle.spot_run.proofs.Sizes.{enough, few}
 use Rattle.spot_run.proofs.area.write_over.Goals as goal
 
 pub open_run-requires : goal.open_run-requires
-open_run-requires g c = can_open c.args.scenario.now c.args.command.now c.requires.task c.args.ego.now c.args.prediction.now c.requires.ego c.requires.predicted c.requires.range c.requires.lanes c.requires.command
+open_run-requires g c = can_open c.args.scenario.now c.args.command.now c.requires.task c.args.ego.now c.args.prediction.now c.requires.ego c.requires.predicted c.requires.command
 
 pub write_lines-requires-clause-enough : goal.write_lines-requires-clause-enough
 write_lines-requires-clause-enough g c = enough c.args.scenario.now c.args.command.now.steps c.args.prediction.now c.requires.predicted.is
@@ -22,7 +22,7 @@ write_lines-requires-clause-few g c = few c.args.scenario.now c.args.command.now
 pub returns-in-Err-clause-tells : goal.returns-in-Err-clause-tells
 returns-in-Err-clause-tells g c =
     area_tells c.args.scenario.now c.args.command.now c.args.ego.now c.requires.ego (opening_text c.args.scenario.now c.args.command.now.steps c.args.prediction.now c.args.ego.now) (λ i. []) (pieces_at c.args.prediction.now)
-    (area_over c.args.scenario.now c.args.command.now c.requires.task c.args.ego.now c.args.prediction.now c.requires.ego c.requires.predicted c.requires.range c.requires.lanes c.requires.command c.requires.ids)
+    (area_over c.args.scenario.now c.args.command.now c.requires.task c.args.ego.now c.args.prediction.now c.requires.ego c.requires.predicted c.requires.command c.requires.ids)
     (g.K.Sink.written c.args.sink.now) (g.K.Sink.written c.args.sink.now) c.in-Err.status c.in-Err.ensures.err
 
 pub write_lines-requires-clause-room : goal.write_lines-requires-clause-room
@@ -30,13 +30,13 @@ write_lines-requires-clause-room g c =
     of_run count_at hits_at c.args.scenario.now c.args.ego.now c.args.prediction.now c.args.command.now.steps c.in-Ok.run' c.in-Ok.ensures.ok
     (λ (p : Plan) (o : Occupancies) (n : ℕ). (text : List ℕ) → IsStepsText (λ i. []) (course_of p) (count_at o) (hits_at o) n text → g.K.Sink.takes c.args.sink.now (length ((opening_text c.args.scenario.now n c.args.prediction.now c.args.ego.now) ++ text)))
     (area_room c.args.scenario.now c.args.command.now c.args.ego.now c.requires.ego (opening_text c.args.scenario.now c.args.command.now.steps c.args.prediction.now c.args.ego.now) (λ i. []) (pieces_at c.args.prediction.now)
-    (area_over c.args.scenario.now c.args.command.now c.requires.task c.args.ego.now c.args.prediction.now c.requires.ego c.requires.predicted c.requires.range c.requires.lanes c.requires.command c.requires.ids)
+    (area_over c.args.scenario.now c.args.command.now c.requires.task c.args.ego.now c.args.prediction.now c.requires.ego c.requires.predicted c.requires.command c.requires.ids)
     c.in-Ok.ensures.within (λ n. g.K.Sink.takes c.args.sink.now n) c.requires.room)
 
 pub returns-in-Ok-write_lines-clause-tells : goal.returns-in-Ok-write_lines-clause-tells
 returns-in-Ok-write_lines-clause-tells g c =
     whole_tells c.args.scenario.now c.args.command.now c.args.ego.now c.requires.ego (opening_text c.args.scenario.now c.args.command.now.steps c.args.prediction.now c.args.ego.now) (λ i. []) (pieces_at c.args.prediction.now)
-    (area_over c.args.scenario.now c.args.command.now c.requires.task c.args.ego.now c.args.prediction.now c.requires.ego c.requires.predicted c.requires.range c.requires.lanes c.requires.command c.requires.ids)
+    (area_over c.args.scenario.now c.args.command.now c.requires.task c.args.ego.now c.args.prediction.now c.requires.ego c.requires.predicted c.requires.command c.requires.ids)
     c.in-Ok.ensures.within (g.K.Sink.written c.args.sink.now) (g.K.Sink.written c.write_lines.new.sink) c.status_of.result c.write_lines.new.run.at c.write_lines.new.run.sets
     (to_run count_at hits_at c.args.scenario.now c.args.ego.now c.args.prediction.now c.args.command.now.steps c.in-Ok.run' c.in-Ok.ensures.ok
     (λ (p : Plan) (o : Occupancies) (n : ℕ). HasWrittenAll (opening_text c.args.scenario.now n c.args.prediction.now c.args.ego.now) (λ i. []) (course_of p) (count_at o) (hits_at o) n (g.K.Sink.written c.args.sink.now) (g.K.Sink.written c.write_lines.new.sink) c.write_lines.new.run.at c.write_lines.new.run.sets)
@@ -55,5 +55,5 @@ returns-clause-tells g c =
     (λ (p : Plan) (o : Occupancies) (n : ℕ). HasBegun (opening_text c.args.scenario.now n c.args.prediction.now c.args.ego.now) (λ i. []) (course_of p) (count_at o) (hits_at o) n (g.K.Sink.written c.args.sink.now) (g.K.Sink.written c.write_lines.new.sink))
     c.in-Err-write_lines.ensures.err in
     fault_tells c.args.scenario.now c.args.command.now c.args.ego.now c.requires.ego (opening_text c.args.scenario.now c.args.command.now.steps c.args.prediction.now c.args.ego.now) (λ i. []) (pieces_at c.args.prediction.now)
-    (area_over c.args.scenario.now c.args.command.now c.requires.task c.args.ego.now c.args.prediction.now c.requires.ego c.requires.predicted c.requires.range c.requires.lanes c.requires.command c.requires.ids)
+    (area_over c.args.scenario.now c.args.command.now c.requires.task c.args.ego.now c.args.prediction.now c.requires.ego c.requires.predicted c.requires.command c.requires.ids)
     c.in-Ok.ensures.within (g.K.Sink.written c.args.sink.now) (g.K.Sink.written c.write_lines.new.sink) text is front

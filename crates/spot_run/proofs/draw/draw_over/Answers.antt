@@ -6,7 +6,7 @@ use Rattle.spot_run.proofs.Drawings.{opens, limit_passed_tells, last_of, drawing
 use Rattle.spot_run.proofs.draw.draw_over.Goals as goal
 
 pub open_run-requires : goal.open_run-requires
-open_run-requires g c = opens c.args.scenario.now c.args.command.now c.requires.task c.args.ego.now c.args.prediction.now c.requires.ego c.requires.predicted c.requires.range c.requires.command
+open_run-requires g c = opens c.args.scenario.now c.args.command.now c.requires.task c.args.ego.now c.args.prediction.now c.requires.ego c.requires.predicted c.requires.command
 
 pub returns-in-Err-clause-tells : goal.returns-in-Err-clause-tells
 returns-in-Err-clause-tells g c = limit_passed_tells c.args.scenario.now c.args.command.now c.requires.task c.args.ego.now c.args.prediction.now c.requires.ego c.requires.predicted (g.K.Sink.written c.args.sink.now) (g.K.Sink.written c.args.sink.now) c.in-Err.status c.in-Err.ensures.err

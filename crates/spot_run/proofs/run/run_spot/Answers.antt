@@ -16,67 +16,67 @@ pub write_output-requires-clause-room : goal.write_output-requires-clause-room
 write_output-requires-clause-room g c = room (run_of c.args.words.now.items g.S.Source c.args.source.now c.load.new.source g.K.Sink c.args.sink.now c.args.sink.now Memory) (λ n. g.K.Sink.takes c.args.sink.now n) c.in-Ok.scenario c.in-Ok-Some.command c.in-Ok.ensures.scenario.0 c.requires (for_command (run_of c.args.words.now.items g.S.Source c.args.source.now c.load.new.source g.K.Sink c.args.sink.now c.args.sink.now Memory) c.in-Ok-Some.field-0 c.in-Ok-Some.command c.in-Ok-Some.field-0-is c.in-Ok-Some.ensures.some c.in-Ok-Some.ensures.only c.in-Ok-Some.ensures.ranges) (c.reads_input.ensures.0 c.if-not-reads_input.false) (λ bytes is. (c.in-Ok.ensures.told bytes is).1) c.in-Ok.ensures.scenario.1
 
 pub returns-in-Ok-clause-headline : goal.returns-in-Ok-clause-headline
-returns-in-Ok-clause-headline g c = (loaded (run_of c.args.words.now.items g.S.Source c.args.source.now c.load.new.source g.K.Sink c.args.sink.now c.write_output.new.sink c.write_output.result) c.in-Ok-Some.command c.in-Ok.scenario (for_command (run_of c.args.words.now.items g.S.Source c.args.source.now c.load.new.source g.K.Sink c.args.sink.now c.write_output.new.sink c.write_output.result) c.in-Ok-Some.field-0 c.in-Ok-Some.command c.in-Ok-Some.field-0-is c.in-Ok-Some.ensures.some c.in-Ok-Some.ensures.only c.in-Ok-Some.ensures.ranges) (c.reads_input.ensures.0 c.if-not-reads_input.false) c.in-Ok.ensures.range c.in-Ok.ensures.told c.write_output.ensures.tells c.write_output.ensures.cause).headline
+returns-in-Ok-clause-headline g c = (loaded (run_of c.args.words.now.items g.S.Source c.args.source.now c.load.new.source g.K.Sink c.args.sink.now c.write_output.new.sink c.write_output.result) c.in-Ok-Some.command c.in-Ok.scenario (for_command (run_of c.args.words.now.items g.S.Source c.args.source.now c.load.new.source g.K.Sink c.args.sink.now c.write_output.new.sink c.write_output.result) c.in-Ok-Some.field-0 c.in-Ok-Some.command c.in-Ok-Some.field-0-is c.in-Ok-Some.ensures.some c.in-Ok-Some.ensures.only c.in-Ok-Some.ensures.ranges) (c.reads_input.ensures.0 c.if-not-reads_input.false) c.in-Ok.ensures.told c.write_output.ensures.tells c.write_output.ensures.cause).headline
 
 pub returns-in-Ok-clause-output : goal.returns-in-Ok-clause-output
-returns-in-Ok-clause-output g c = (loaded (run_of c.args.words.now.items g.S.Source c.args.source.now c.load.new.source g.K.Sink c.args.sink.now c.write_output.new.sink c.write_output.result) c.in-Ok-Some.command c.in-Ok.scenario (for_command (run_of c.args.words.now.items g.S.Source c.args.source.now c.load.new.source g.K.Sink c.args.sink.now c.write_output.new.sink c.write_output.result) c.in-Ok-Some.field-0 c.in-Ok-Some.command c.in-Ok-Some.field-0-is c.in-Ok-Some.ensures.some c.in-Ok-Some.ensures.only c.in-Ok-Some.ensures.ranges) (c.reads_input.ensures.0 c.if-not-reads_input.false) c.in-Ok.ensures.range c.in-Ok.ensures.told c.write_output.ensures.tells c.write_output.ensures.cause).output
+returns-in-Ok-clause-output g c = (loaded (run_of c.args.words.now.items g.S.Source c.args.source.now c.load.new.source g.K.Sink c.args.sink.now c.write_output.new.sink c.write_output.result) c.in-Ok-Some.command c.in-Ok.scenario (for_command (run_of c.args.words.now.items g.S.Source c.args.source.now c.load.new.source g.K.Sink c.args.sink.now c.write_output.new.sink c.write_output.result) c.in-Ok-Some.field-0 c.in-Ok-Some.command c.in-Ok-Some.field-0-is c.in-Ok-Some.ensures.some c.in-Ok-Some.ensures.only c.in-Ok-Some.ensures.ranges) (c.reads_input.ensures.0 c.if-not-reads_input.false) c.in-Ok.ensures.told c.write_output.ensures.tells c.write_output.ensures.cause).output
 
 pub returns-in-Ok-clause-tight : goal.returns-in-Ok-clause-tight
-returns-in-Ok-clause-tight g c = (loaded (run_of c.args.words.now.items g.S.Source c.args.source.now c.load.new.source g.K.Sink c.args.sink.now c.write_output.new.sink c.write_output.result) c.in-Ok-Some.command c.in-Ok.scenario (for_command (run_of c.args.words.now.items g.S.Source c.args.source.now c.load.new.source g.K.Sink c.args.sink.now c.write_output.new.sink c.write_output.result) c.in-Ok-Some.field-0 c.in-Ok-Some.command c.in-Ok-Some.field-0-is c.in-Ok-Some.ensures.some c.in-Ok-Some.ensures.only c.in-Ok-Some.ensures.ranges) (c.reads_input.ensures.0 c.if-not-reads_input.false) c.in-Ok.ensures.range c.in-Ok.ensures.told c.write_output.ensures.tells c.write_output.ensures.cause).tight
+returns-in-Ok-clause-tight g c = (loaded (run_of c.args.words.now.items g.S.Source c.args.source.now c.load.new.source g.K.Sink c.args.sink.now c.write_output.new.sink c.write_output.result) c.in-Ok-Some.command c.in-Ok.scenario (for_command (run_of c.args.words.now.items g.S.Source c.args.source.now c.load.new.source g.K.Sink c.args.sink.now c.write_output.new.sink c.write_output.result) c.in-Ok-Some.field-0 c.in-Ok-Some.command c.in-Ok-Some.field-0-is c.in-Ok-Some.ensures.some c.in-Ok-Some.ensures.only c.in-Ok-Some.ensures.ranges) (c.reads_input.ensures.0 c.if-not-reads_input.false) c.in-Ok.ensures.told c.write_output.ensures.tells c.write_output.ensures.cause).tight
 
 pub returns-in-Ok-clause-source_read : goal.returns-in-Ok-clause-source_read
-returns-in-Ok-clause-source_read g c = (loaded (run_of c.args.words.now.items g.S.Source c.args.source.now c.load.new.source g.K.Sink c.args.sink.now c.write_output.new.sink c.write_output.result) c.in-Ok-Some.command c.in-Ok.scenario (for_command (run_of c.args.words.now.items g.S.Source c.args.source.now c.load.new.source g.K.Sink c.args.sink.now c.write_output.new.sink c.write_output.result) c.in-Ok-Some.field-0 c.in-Ok-Some.command c.in-Ok-Some.field-0-is c.in-Ok-Some.ensures.some c.in-Ok-Some.ensures.only c.in-Ok-Some.ensures.ranges) (c.reads_input.ensures.0 c.if-not-reads_input.false) c.in-Ok.ensures.range c.in-Ok.ensures.told c.write_output.ensures.tells c.write_output.ensures.cause).source_read
+returns-in-Ok-clause-source_read g c = (loaded (run_of c.args.words.now.items g.S.Source c.args.source.now c.load.new.source g.K.Sink c.args.sink.now c.write_output.new.sink c.write_output.result) c.in-Ok-Some.command c.in-Ok.scenario (for_command (run_of c.args.words.now.items g.S.Source c.args.source.now c.load.new.source g.K.Sink c.args.sink.now c.write_output.new.sink c.write_output.result) c.in-Ok-Some.field-0 c.in-Ok-Some.command c.in-Ok-Some.field-0-is c.in-Ok-Some.ensures.some c.in-Ok-Some.ensures.only c.in-Ok-Some.ensures.ranges) (c.reads_input.ensures.0 c.if-not-reads_input.false) c.in-Ok.ensures.told c.write_output.ensures.tells c.write_output.ensures.cause).source_read
 
 pub returns-in-Ok-clause-known : goal.returns-in-Ok-clause-known
-returns-in-Ok-clause-known g c = (loaded (run_of c.args.words.now.items g.S.Source c.args.source.now c.load.new.source g.K.Sink c.args.sink.now c.write_output.new.sink c.write_output.result) c.in-Ok-Some.command c.in-Ok.scenario (for_command (run_of c.args.words.now.items g.S.Source c.args.source.now c.load.new.source g.K.Sink c.args.sink.now c.write_output.new.sink c.write_output.result) c.in-Ok-Some.field-0 c.in-Ok-Some.command c.in-Ok-Some.field-0-is c.in-Ok-Some.ensures.some c.in-Ok-Some.ensures.only c.in-Ok-Some.ensures.ranges) (c.reads_input.ensures.0 c.if-not-reads_input.false) c.in-Ok.ensures.range c.in-Ok.ensures.told c.write_output.ensures.tells c.write_output.ensures.cause).known
+returns-in-Ok-clause-known g c = (loaded (run_of c.args.words.now.items g.S.Source c.args.source.now c.load.new.source g.K.Sink c.args.sink.now c.write_output.new.sink c.write_output.result) c.in-Ok-Some.command c.in-Ok.scenario (for_command (run_of c.args.words.now.items g.S.Source c.args.source.now c.load.new.source g.K.Sink c.args.sink.now c.write_output.new.sink c.write_output.result) c.in-Ok-Some.field-0 c.in-Ok-Some.command c.in-Ok-Some.field-0-is c.in-Ok-Some.ensures.some c.in-Ok-Some.ensures.only c.in-Ok-Some.ensures.ranges) (c.reads_input.ensures.0 c.if-not-reads_input.false) c.in-Ok.ensures.told c.write_output.ensures.tells c.write_output.ensures.cause).known
 
 pub returns-in-Ok-clause-bad_words : goal.returns-in-Ok-clause-bad_words
-returns-in-Ok-clause-bad_words g c = (loaded (run_of c.args.words.now.items g.S.Source c.args.source.now c.load.new.source g.K.Sink c.args.sink.now c.write_output.new.sink c.write_output.result) c.in-Ok-Some.command c.in-Ok.scenario (for_command (run_of c.args.words.now.items g.S.Source c.args.source.now c.load.new.source g.K.Sink c.args.sink.now c.write_output.new.sink c.write_output.result) c.in-Ok-Some.field-0 c.in-Ok-Some.command c.in-Ok-Some.field-0-is c.in-Ok-Some.ensures.some c.in-Ok-Some.ensures.only c.in-Ok-Some.ensures.ranges) (c.reads_input.ensures.0 c.if-not-reads_input.false) c.in-Ok.ensures.range c.in-Ok.ensures.told c.write_output.ensures.tells c.write_output.ensures.cause).bad_words
+returns-in-Ok-clause-bad_words g c = (loaded (run_of c.args.words.now.items g.S.Source c.args.source.now c.load.new.source g.K.Sink c.args.sink.now c.write_output.new.sink c.write_output.result) c.in-Ok-Some.command c.in-Ok.scenario (for_command (run_of c.args.words.now.items g.S.Source c.args.source.now c.load.new.source g.K.Sink c.args.sink.now c.write_output.new.sink c.write_output.result) c.in-Ok-Some.field-0 c.in-Ok-Some.command c.in-Ok-Some.field-0-is c.in-Ok-Some.ensures.some c.in-Ok-Some.ensures.only c.in-Ok-Some.ensures.ranges) (c.reads_input.ensures.0 c.if-not-reads_input.false) c.in-Ok.ensures.told c.write_output.ensures.tells c.write_output.ensures.cause).bad_words
 
 pub returns-in-Ok-clause-read_fault : goal.returns-in-Ok-clause-read_fault
-returns-in-Ok-clause-read_fault g c = (loaded (run_of c.args.words.now.items g.S.Source c.args.source.now c.load.new.source g.K.Sink c.args.sink.now c.write_output.new.sink c.write_output.result) c.in-Ok-Some.command c.in-Ok.scenario (for_command (run_of c.args.words.now.items g.S.Source c.args.source.now c.load.new.source g.K.Sink c.args.sink.now c.write_output.new.sink c.write_output.result) c.in-Ok-Some.field-0 c.in-Ok-Some.command c.in-Ok-Some.field-0-is c.in-Ok-Some.ensures.some c.in-Ok-Some.ensures.only c.in-Ok-Some.ensures.ranges) (c.reads_input.ensures.0 c.if-not-reads_input.false) c.in-Ok.ensures.range c.in-Ok.ensures.told c.write_output.ensures.tells c.write_output.ensures.cause).read_fault
+returns-in-Ok-clause-read_fault g c = (loaded (run_of c.args.words.now.items g.S.Source c.args.source.now c.load.new.source g.K.Sink c.args.sink.now c.write_output.new.sink c.write_output.result) c.in-Ok-Some.command c.in-Ok.scenario (for_command (run_of c.args.words.now.items g.S.Source c.args.source.now c.load.new.source g.K.Sink c.args.sink.now c.write_output.new.sink c.write_output.result) c.in-Ok-Some.field-0 c.in-Ok-Some.command c.in-Ok-Some.field-0-is c.in-Ok-Some.ensures.some c.in-Ok-Some.ensures.only c.in-Ok-Some.ensures.ranges) (c.reads_input.ensures.0 c.if-not-reads_input.false) c.in-Ok.ensures.told c.write_output.ensures.tells c.write_output.ensures.cause).read_fault
 
 pub returns-in-Ok-clause-too_long : goal.returns-in-Ok-clause-too_long
-returns-in-Ok-clause-too_long g c = (loaded (run_of c.args.words.now.items g.S.Source c.args.source.now c.load.new.source g.K.Sink c.args.sink.now c.write_output.new.sink c.write_output.result) c.in-Ok-Some.command c.in-Ok.scenario (for_command (run_of c.args.words.now.items g.S.Source c.args.source.now c.load.new.source g.K.Sink c.args.sink.now c.write_output.new.sink c.write_output.result) c.in-Ok-Some.field-0 c.in-Ok-Some.command c.in-Ok-Some.field-0-is c.in-Ok-Some.ensures.some c.in-Ok-Some.ensures.only c.in-Ok-Some.ensures.ranges) (c.reads_input.ensures.0 c.if-not-reads_input.false) c.in-Ok.ensures.range c.in-Ok.ensures.told c.write_output.ensures.tells c.write_output.ensures.cause).too_long
+returns-in-Ok-clause-too_long g c = (loaded (run_of c.args.words.now.items g.S.Source c.args.source.now c.load.new.source g.K.Sink c.args.sink.now c.write_output.new.sink c.write_output.result) c.in-Ok-Some.command c.in-Ok.scenario (for_command (run_of c.args.words.now.items g.S.Source c.args.source.now c.load.new.source g.K.Sink c.args.sink.now c.write_output.new.sink c.write_output.result) c.in-Ok-Some.field-0 c.in-Ok-Some.command c.in-Ok-Some.field-0-is c.in-Ok-Some.ensures.some c.in-Ok-Some.ensures.only c.in-Ok-Some.ensures.ranges) (c.reads_input.ensures.0 c.if-not-reads_input.false) c.in-Ok.ensures.told c.write_output.ensures.tells c.write_output.ensures.cause).too_long
 
 pub returns-in-Ok-clause-not_json : goal.returns-in-Ok-clause-not_json
-returns-in-Ok-clause-not_json g c = (loaded (run_of c.args.words.now.items g.S.Source c.args.source.now c.load.new.source g.K.Sink c.args.sink.now c.write_output.new.sink c.write_output.result) c.in-Ok-Some.command c.in-Ok.scenario (for_command (run_of c.args.words.now.items g.S.Source c.args.source.now c.load.new.source g.K.Sink c.args.sink.now c.write_output.new.sink c.write_output.result) c.in-Ok-Some.field-0 c.in-Ok-Some.command c.in-Ok-Some.field-0-is c.in-Ok-Some.ensures.some c.in-Ok-Some.ensures.only c.in-Ok-Some.ensures.ranges) (c.reads_input.ensures.0 c.if-not-reads_input.false) c.in-Ok.ensures.range c.in-Ok.ensures.told c.write_output.ensures.tells c.write_output.ensures.cause).not_json
+returns-in-Ok-clause-not_json g c = (loaded (run_of c.args.words.now.items g.S.Source c.args.source.now c.load.new.source g.K.Sink c.args.sink.now c.write_output.new.sink c.write_output.result) c.in-Ok-Some.command c.in-Ok.scenario (for_command (run_of c.args.words.now.items g.S.Source c.args.source.now c.load.new.source g.K.Sink c.args.sink.now c.write_output.new.sink c.write_output.result) c.in-Ok-Some.field-0 c.in-Ok-Some.command c.in-Ok-Some.field-0-is c.in-Ok-Some.ensures.some c.in-Ok-Some.ensures.only c.in-Ok-Some.ensures.ranges) (c.reads_input.ensures.0 c.if-not-reads_input.false) c.in-Ok.ensures.told c.write_output.ensures.tells c.write_output.ensures.cause).not_json
 
 pub returns-in-Ok-clause-not_tree : goal.returns-in-Ok-clause-not_tree
-returns-in-Ok-clause-not_tree g c = (loaded (run_of c.args.words.now.items g.S.Source c.args.source.now c.load.new.source g.K.Sink c.args.sink.now c.write_output.new.sink c.write_output.result) c.in-Ok-Some.command c.in-Ok.scenario (for_command (run_of c.args.words.now.items g.S.Source c.args.source.now c.load.new.source g.K.Sink c.args.sink.now c.write_output.new.sink c.write_output.result) c.in-Ok-Some.field-0 c.in-Ok-Some.command c.in-Ok-Some.field-0-is c.in-Ok-Some.ensures.some c.in-Ok-Some.ensures.only c.in-Ok-Some.ensures.ranges) (c.reads_input.ensures.0 c.if-not-reads_input.false) c.in-Ok.ensures.range c.in-Ok.ensures.told c.write_output.ensures.tells c.write_output.ensures.cause).not_tree
+returns-in-Ok-clause-not_tree g c = (loaded (run_of c.args.words.now.items g.S.Source c.args.source.now c.load.new.source g.K.Sink c.args.sink.now c.write_output.new.sink c.write_output.result) c.in-Ok-Some.command c.in-Ok.scenario (for_command (run_of c.args.words.now.items g.S.Source c.args.source.now c.load.new.source g.K.Sink c.args.sink.now c.write_output.new.sink c.write_output.result) c.in-Ok-Some.field-0 c.in-Ok-Some.command c.in-Ok-Some.field-0-is c.in-Ok-Some.ensures.some c.in-Ok-Some.ensures.only c.in-Ok-Some.ensures.ranges) (c.reads_input.ensures.0 c.if-not-reads_input.false) c.in-Ok.ensures.told c.write_output.ensures.tells c.write_output.ensures.cause).not_tree
 
 pub returns-in-Ok-clause-refused : goal.returns-in-Ok-clause-refused
-returns-in-Ok-clause-refused g c = (loaded (run_of c.args.words.now.items g.S.Source c.args.source.now c.load.new.source g.K.Sink c.args.sink.now c.write_output.new.sink c.write_output.result) c.in-Ok-Some.command c.in-Ok.scenario (for_command (run_of c.args.words.now.items g.S.Source c.args.source.now c.load.new.source g.K.Sink c.args.sink.now c.write_output.new.sink c.write_output.result) c.in-Ok-Some.field-0 c.in-Ok-Some.command c.in-Ok-Some.field-0-is c.in-Ok-Some.ensures.some c.in-Ok-Some.ensures.only c.in-Ok-Some.ensures.ranges) (c.reads_input.ensures.0 c.if-not-reads_input.false) c.in-Ok.ensures.range c.in-Ok.ensures.told c.write_output.ensures.tells c.write_output.ensures.cause).refused
+returns-in-Ok-clause-refused g c = (loaded (run_of c.args.words.now.items g.S.Source c.args.source.now c.load.new.source g.K.Sink c.args.sink.now c.write_output.new.sink c.write_output.result) c.in-Ok-Some.command c.in-Ok.scenario (for_command (run_of c.args.words.now.items g.S.Source c.args.source.now c.load.new.source g.K.Sink c.args.sink.now c.write_output.new.sink c.write_output.result) c.in-Ok-Some.field-0 c.in-Ok-Some.command c.in-Ok-Some.field-0-is c.in-Ok-Some.ensures.some c.in-Ok-Some.ensures.only c.in-Ok-Some.ensures.ranges) (c.reads_input.ensures.0 c.if-not-reads_input.false) c.in-Ok.ensures.told c.write_output.ensures.tells c.write_output.ensures.cause).refused
 
 pub returns-in-Ok-clause-no_problem : goal.returns-in-Ok-clause-no_problem
-returns-in-Ok-clause-no_problem g c = (loaded (run_of c.args.words.now.items g.S.Source c.args.source.now c.load.new.source g.K.Sink c.args.sink.now c.write_output.new.sink c.write_output.result) c.in-Ok-Some.command c.in-Ok.scenario (for_command (run_of c.args.words.now.items g.S.Source c.args.source.now c.load.new.source g.K.Sink c.args.sink.now c.write_output.new.sink c.write_output.result) c.in-Ok-Some.field-0 c.in-Ok-Some.command c.in-Ok-Some.field-0-is c.in-Ok-Some.ensures.some c.in-Ok-Some.ensures.only c.in-Ok-Some.ensures.ranges) (c.reads_input.ensures.0 c.if-not-reads_input.false) c.in-Ok.ensures.range c.in-Ok.ensures.told c.write_output.ensures.tells c.write_output.ensures.cause).no_problem
+returns-in-Ok-clause-no_problem g c = (loaded (run_of c.args.words.now.items g.S.Source c.args.source.now c.load.new.source g.K.Sink c.args.sink.now c.write_output.new.sink c.write_output.result) c.in-Ok-Some.command c.in-Ok.scenario (for_command (run_of c.args.words.now.items g.S.Source c.args.source.now c.load.new.source g.K.Sink c.args.sink.now c.write_output.new.sink c.write_output.result) c.in-Ok-Some.field-0 c.in-Ok-Some.command c.in-Ok-Some.field-0-is c.in-Ok-Some.ensures.some c.in-Ok-Some.ensures.only c.in-Ok-Some.ensures.ranges) (c.reads_input.ensures.0 c.if-not-reads_input.false) c.in-Ok.ensures.told c.write_output.ensures.tells c.write_output.ensures.cause).no_problem
 
 pub returns-in-Ok-clause-late_problem : goal.returns-in-Ok-clause-late_problem
-returns-in-Ok-clause-late_problem g c = (loaded (run_of c.args.words.now.items g.S.Source c.args.source.now c.load.new.source g.K.Sink c.args.sink.now c.write_output.new.sink c.write_output.result) c.in-Ok-Some.command c.in-Ok.scenario (for_command (run_of c.args.words.now.items g.S.Source c.args.source.now c.load.new.source g.K.Sink c.args.sink.now c.write_output.new.sink c.write_output.result) c.in-Ok-Some.field-0 c.in-Ok-Some.command c.in-Ok-Some.field-0-is c.in-Ok-Some.ensures.some c.in-Ok-Some.ensures.only c.in-Ok-Some.ensures.ranges) (c.reads_input.ensures.0 c.if-not-reads_input.false) c.in-Ok.ensures.range c.in-Ok.ensures.told c.write_output.ensures.tells c.write_output.ensures.cause).late_problem
+returns-in-Ok-clause-late_problem g c = (loaded (run_of c.args.words.now.items g.S.Source c.args.source.now c.load.new.source g.K.Sink c.args.sink.now c.write_output.new.sink c.write_output.result) c.in-Ok-Some.command c.in-Ok.scenario (for_command (run_of c.args.words.now.items g.S.Source c.args.source.now c.load.new.source g.K.Sink c.args.sink.now c.write_output.new.sink c.write_output.result) c.in-Ok-Some.field-0 c.in-Ok-Some.command c.in-Ok-Some.field-0-is c.in-Ok-Some.ensures.some c.in-Ok-Some.ensures.only c.in-Ok-Some.ensures.ranges) (c.reads_input.ensures.0 c.if-not-reads_input.false) c.in-Ok.ensures.told c.write_output.ensures.tells c.write_output.ensures.cause).late_problem
 
 pub returns-in-Ok-clause-ego_too_fast : goal.returns-in-Ok-clause-ego_too_fast
-returns-in-Ok-clause-ego_too_fast g c = (loaded (run_of c.args.words.now.items g.S.Source c.args.source.now c.load.new.source g.K.Sink c.args.sink.now c.write_output.new.sink c.write_output.result) c.in-Ok-Some.command c.in-Ok.scenario (for_command (run_of c.args.words.now.items g.S.Source c.args.source.now c.load.new.source g.K.Sink c.args.sink.now c.write_output.new.sink c.write_output.result) c.in-Ok-Some.field-0 c.in-Ok-Some.command c.in-Ok-Some.field-0-is c.in-Ok-Some.ensures.some c.in-Ok-Some.ensures.only c.in-Ok-Some.ensures.ranges) (c.reads_input.ensures.0 c.if-not-reads_input.false) c.in-Ok.ensures.range c.in-Ok.ensures.told c.write_output.ensures.tells c.write_output.ensures.cause).ego_too_fast
+returns-in-Ok-clause-ego_too_fast g c = (loaded (run_of c.args.words.now.items g.S.Source c.args.source.now c.load.new.source g.K.Sink c.args.sink.now c.write_output.new.sink c.write_output.result) c.in-Ok-Some.command c.in-Ok.scenario (for_command (run_of c.args.words.now.items g.S.Source c.args.source.now c.load.new.source g.K.Sink c.args.sink.now c.write_output.new.sink c.write_output.result) c.in-Ok-Some.field-0 c.in-Ok-Some.command c.in-Ok-Some.field-0-is c.in-Ok-Some.ensures.some c.in-Ok-Some.ensures.only c.in-Ok-Some.ensures.ranges) (c.reads_input.ensures.0 c.if-not-reads_input.false) c.in-Ok.ensures.told c.write_output.ensures.tells c.write_output.ensures.cause).ego_too_fast
 
 pub returns-in-Ok-clause-too_many_cells : goal.returns-in-Ok-clause-too_many_cells
-returns-in-Ok-clause-too_many_cells g c = (loaded (run_of c.args.words.now.items g.S.Source c.args.source.now c.load.new.source g.K.Sink c.args.sink.now c.write_output.new.sink c.write_output.result) c.in-Ok-Some.command c.in-Ok.scenario (for_command (run_of c.args.words.now.items g.S.Source c.args.source.now c.load.new.source g.K.Sink c.args.sink.now c.write_output.new.sink c.write_output.result) c.in-Ok-Some.field-0 c.in-Ok-Some.command c.in-Ok-Some.field-0-is c.in-Ok-Some.ensures.some c.in-Ok-Some.ensures.only c.in-Ok-Some.ensures.ranges) (c.reads_input.ensures.0 c.if-not-reads_input.false) c.in-Ok.ensures.range c.in-Ok.ensures.told c.write_output.ensures.tells c.write_output.ensures.cause).too_many_cells
+returns-in-Ok-clause-too_many_cells g c = (loaded (run_of c.args.words.now.items g.S.Source c.args.source.now c.load.new.source g.K.Sink c.args.sink.now c.write_output.new.sink c.write_output.result) c.in-Ok-Some.command c.in-Ok.scenario (for_command (run_of c.args.words.now.items g.S.Source c.args.source.now c.load.new.source g.K.Sink c.args.sink.now c.write_output.new.sink c.write_output.result) c.in-Ok-Some.field-0 c.in-Ok-Some.command c.in-Ok-Some.field-0-is c.in-Ok-Some.ensures.some c.in-Ok-Some.ensures.only c.in-Ok-Some.ensures.ranges) (c.reads_input.ensures.0 c.if-not-reads_input.false) c.in-Ok.ensures.told c.write_output.ensures.tells c.write_output.ensures.cause).too_many_cells
 
 pub returns-in-Ok-clause-lane_too_wide : goal.returns-in-Ok-clause-lane_too_wide
-returns-in-Ok-clause-lane_too_wide g c = (loaded (run_of c.args.words.now.items g.S.Source c.args.source.now c.load.new.source g.K.Sink c.args.sink.now c.write_output.new.sink c.write_output.result) c.in-Ok-Some.command c.in-Ok.scenario (for_command (run_of c.args.words.now.items g.S.Source c.args.source.now c.load.new.source g.K.Sink c.args.sink.now c.write_output.new.sink c.write_output.result) c.in-Ok-Some.field-0 c.in-Ok-Some.command c.in-Ok-Some.field-0-is c.in-Ok-Some.ensures.some c.in-Ok-Some.ensures.only c.in-Ok-Some.ensures.ranges) (c.reads_input.ensures.0 c.if-not-reads_input.false) c.in-Ok.ensures.range c.in-Ok.ensures.told c.write_output.ensures.tells c.write_output.ensures.cause).lane_too_wide
+returns-in-Ok-clause-lane_too_wide g c = (loaded (run_of c.args.words.now.items g.S.Source c.args.source.now c.load.new.source g.K.Sink c.args.sink.now c.write_output.new.sink c.write_output.result) c.in-Ok-Some.command c.in-Ok.scenario (for_command (run_of c.args.words.now.items g.S.Source c.args.source.now c.load.new.source g.K.Sink c.args.sink.now c.write_output.new.sink c.write_output.result) c.in-Ok-Some.field-0 c.in-Ok-Some.command c.in-Ok-Some.field-0-is c.in-Ok-Some.ensures.some c.in-Ok-Some.ensures.only c.in-Ok-Some.ensures.ranges) (c.reads_input.ensures.0 c.if-not-reads_input.false) c.in-Ok.ensures.told c.write_output.ensures.tells c.write_output.ensures.cause).lane_too_wide
 
 pub returns-in-Ok-clause-too_many_lane_polygons : goal.returns-in-Ok-clause-too_many_lane_polygons
-returns-in-Ok-clause-too_many_lane_polygons g c = (loaded (run_of c.args.words.now.items g.S.Source c.args.source.now c.load.new.source g.K.Sink c.args.sink.now c.write_output.new.sink c.write_output.result) c.in-Ok-Some.command c.in-Ok.scenario (for_command (run_of c.args.words.now.items g.S.Source c.args.source.now c.load.new.source g.K.Sink c.args.sink.now c.write_output.new.sink c.write_output.result) c.in-Ok-Some.field-0 c.in-Ok-Some.command c.in-Ok-Some.field-0-is c.in-Ok-Some.ensures.some c.in-Ok-Some.ensures.only c.in-Ok-Some.ensures.ranges) (c.reads_input.ensures.0 c.if-not-reads_input.false) c.in-Ok.ensures.range c.in-Ok.ensures.told c.write_output.ensures.tells c.write_output.ensures.cause).too_many_lane_polygons
+returns-in-Ok-clause-too_many_lane_polygons g c = (loaded (run_of c.args.words.now.items g.S.Source c.args.source.now c.load.new.source g.K.Sink c.args.sink.now c.write_output.new.sink c.write_output.result) c.in-Ok-Some.command c.in-Ok.scenario (for_command (run_of c.args.words.now.items g.S.Source c.args.source.now c.load.new.source g.K.Sink c.args.sink.now c.write_output.new.sink c.write_output.result) c.in-Ok-Some.field-0 c.in-Ok-Some.command c.in-Ok-Some.field-0-is c.in-Ok-Some.ensures.some c.in-Ok-Some.ensures.only c.in-Ok-Some.ensures.ranges) (c.reads_input.ensures.0 c.if-not-reads_input.false) c.in-Ok.ensures.told c.write_output.ensures.tells c.write_output.ensures.cause).too_many_lane_polygons
 
 pub returns-in-Ok-clause-area_too_wide : goal.returns-in-Ok-clause-area_too_wide
-returns-in-Ok-clause-area_too_wide g c = (loaded (run_of c.args.words.now.items g.S.Source c.args.source.now c.load.new.source g.K.Sink c.args.sink.now c.write_output.new.sink c.write_output.result) c.in-Ok-Some.command c.in-Ok.scenario (for_command (run_of c.args.words.now.items g.S.Source c.args.source.now c.load.new.source g.K.Sink c.args.sink.now c.write_output.new.sink c.write_output.result) c.in-Ok-Some.field-0 c.in-Ok-Some.command c.in-Ok-Some.field-0-is c.in-Ok-Some.ensures.some c.in-Ok-Some.ensures.only c.in-Ok-Some.ensures.ranges) (c.reads_input.ensures.0 c.if-not-reads_input.false) c.in-Ok.ensures.range c.in-Ok.ensures.told c.write_output.ensures.tells c.write_output.ensures.cause).area_too_wide
+returns-in-Ok-clause-area_too_wide g c = (loaded (run_of c.args.words.now.items g.S.Source c.args.source.now c.load.new.source g.K.Sink c.args.sink.now c.write_output.new.sink c.write_output.result) c.in-Ok-Some.command c.in-Ok.scenario (for_command (run_of c.args.words.now.items g.S.Source c.args.source.now c.load.new.source g.K.Sink c.args.sink.now c.write_output.new.sink c.write_output.result) c.in-Ok-Some.field-0 c.in-Ok-Some.command c.in-Ok-Some.field-0-is c.in-Ok-Some.ensures.some c.in-Ok-Some.ensures.only c.in-Ok-Some.ensures.ranges) (c.reads_input.ensures.0 c.if-not-reads_input.false) c.in-Ok.ensures.told c.write_output.ensures.tells c.write_output.ensures.cause).area_too_wide
 
 pub returns-in-Ok-clause-too_many_boxes : goal.returns-in-Ok-clause-too_many_boxes
-returns-in-Ok-clause-too_many_boxes g c = (loaded (run_of c.args.words.now.items g.S.Source c.args.source.now c.load.new.source g.K.Sink c.args.sink.now c.write_output.new.sink c.write_output.result) c.in-Ok-Some.command c.in-Ok.scenario (for_command (run_of c.args.words.now.items g.S.Source c.args.source.now c.load.new.source g.K.Sink c.args.sink.now c.write_output.new.sink c.write_output.result) c.in-Ok-Some.field-0 c.in-Ok-Some.command c.in-Ok-Some.field-0-is c.in-Ok-Some.ensures.some c.in-Ok-Some.ensures.only c.in-Ok-Some.ensures.ranges) (c.reads_input.ensures.0 c.if-not-reads_input.false) c.in-Ok.ensures.range c.in-Ok.ensures.told c.write_output.ensures.tells c.write_output.ensures.cause).too_many_boxes
+returns-in-Ok-clause-too_many_boxes g c = (loaded (run_of c.args.words.now.items g.S.Source c.args.source.now c.load.new.source g.K.Sink c.args.sink.now c.write_output.new.sink c.write_output.result) c.in-Ok-Some.command c.in-Ok.scenario (for_command (run_of c.args.words.now.items g.S.Source c.args.source.now c.load.new.source g.K.Sink c.args.sink.now c.write_output.new.sink c.write_output.result) c.in-Ok-Some.field-0 c.in-Ok-Some.command c.in-Ok-Some.field-0-is c.in-Ok-Some.ensures.some c.in-Ok-Some.ensures.only c.in-Ok-Some.ensures.ranges) (c.reads_input.ensures.0 c.if-not-reads_input.false) c.in-Ok.ensures.told c.write_output.ensures.tells c.write_output.ensures.cause).too_many_boxes
 
 pub returns-in-Ok-clause-write_fault : goal.returns-in-Ok-clause-write_fault
-returns-in-Ok-clause-write_fault g c = (loaded (run_of c.args.words.now.items g.S.Source c.args.source.now c.load.new.source g.K.Sink c.args.sink.now c.write_output.new.sink c.write_output.result) c.in-Ok-Some.command c.in-Ok.scenario (for_command (run_of c.args.words.now.items g.S.Source c.args.source.now c.load.new.source g.K.Sink c.args.sink.now c.write_output.new.sink c.write_output.result) c.in-Ok-Some.field-0 c.in-Ok-Some.command c.in-Ok-Some.field-0-is c.in-Ok-Some.ensures.some c.in-Ok-Some.ensures.only c.in-Ok-Some.ensures.ranges) (c.reads_input.ensures.0 c.if-not-reads_input.false) c.in-Ok.ensures.range c.in-Ok.ensures.told c.write_output.ensures.tells c.write_output.ensures.cause).write_fault
+returns-in-Ok-clause-write_fault g c = (loaded (run_of c.args.words.now.items g.S.Source c.args.source.now c.load.new.source g.K.Sink c.args.sink.now c.write_output.new.sink c.write_output.result) c.in-Ok-Some.command c.in-Ok.scenario (for_command (run_of c.args.words.now.items g.S.Source c.args.source.now c.load.new.source g.K.Sink c.args.sink.now c.write_output.new.sink c.write_output.result) c.in-Ok-Some.field-0 c.in-Ok-Some.command c.in-Ok-Some.field-0-is c.in-Ok-Some.ensures.some c.in-Ok-Some.ensures.only c.in-Ok-Some.ensures.ranges) (c.reads_input.ensures.0 c.if-not-reads_input.false) c.in-Ok.ensures.told c.write_output.ensures.tells c.write_output.ensures.cause).write_fault
 
 pub returns-in-Ok-clause-complete : goal.returns-in-Ok-clause-complete
-returns-in-Ok-clause-complete g c = (loaded (run_of c.args.words.now.items g.S.Source c.args.source.now c.load.new.source g.K.Sink c.args.sink.now c.write_output.new.sink c.write_output.result) c.in-Ok-Some.command c.in-Ok.scenario (for_command (run_of c.args.words.now.items g.S.Source c.args.source.now c.load.new.source g.K.Sink c.args.sink.now c.write_output.new.sink c.write_output.result) c.in-Ok-Some.field-0 c.in-Ok-Some.command c.in-Ok-Some.field-0-is c.in-Ok-Some.ensures.some c.in-Ok-Some.ensures.only c.in-Ok-Some.ensures.ranges) (c.reads_input.ensures.0 c.if-not-reads_input.false) c.in-Ok.ensures.range c.in-Ok.ensures.told c.write_output.ensures.tells c.write_output.ensures.cause).complete
+returns-in-Ok-clause-complete g c = (loaded (run_of c.args.words.now.items g.S.Source c.args.source.now c.load.new.source g.K.Sink c.args.sink.now c.write_output.new.sink c.write_output.result) c.in-Ok-Some.command c.in-Ok.scenario (for_command (run_of c.args.words.now.items g.S.Source c.args.source.now c.load.new.source g.K.Sink c.args.sink.now c.write_output.new.sink c.write_output.result) c.in-Ok-Some.field-0 c.in-Ok-Some.command c.in-Ok-Some.field-0-is c.in-Ok-Some.ensures.some c.in-Ok-Some.ensures.only c.in-Ok-Some.ensures.ranges) (c.reads_input.ensures.0 c.if-not-reads_input.false) c.in-Ok.ensures.told c.write_output.ensures.tells c.write_output.ensures.cause).complete
 
 pub returns-in-Err-load-clause-headline : goal.returns-in-Err-load-clause-headline
 returns-in-Err-load-clause-headline g c = (failed (run_of c.args.words.now.items g.S.Source c.args.source.now c.load.new.source g.K.Sink c.args.sink.now c.args.sink.now c.in-Err-load.status) c.in-Ok-Some.command (for_command (run_of c.args.words.now.items g.S.Source c.args.source.now c.load.new.source g.K.Sink c.args.sink.now c.args.sink.now c.in-Err-load.status) c.in-Ok-Some.field-0 c.in-Ok-Some.command c.in-Ok-Some.field-0-is c.in-Ok-Some.ensures.some c.in-Ok-Some.ensures.only c.in-Ok-Some.ensures.ranges) (c.reads_input.ensures.0 c.if-not-reads_input.false) c.in-Err-load.ensures.told c.in-Err-load.ensures.answers (λ e. c.in-Err-load.ensures.fault (ap Err e))).headline
