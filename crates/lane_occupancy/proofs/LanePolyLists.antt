@@ -14,7 +14,7 @@ use Rattle.lanelets.proofs.NumberLists.{lists_none, lists_push, lists_skip}
 use Rattle.lane_occupancy.specs.Polygons.{polygon_of}
 use Rattle.lane_occupancy.specs.declared.polygons.LanePoly.{LanePoly}
 use Rattle.lane_occupancy.proofs.HullSums.{hull_sums}
-use Rattle.lane_occupancy.proofs.ReachedCells.{whole}
+use Rattle.lane_occupancy.proofs.ReachedCells.{lists_on, whole}
 
 -- ---- one polygon
 
@@ -72,6 +72,13 @@ module _ (lanes : List Lane) (s : AccStart) (speed k steps : ℕ) where
     cells_are = lists_skip (IsReached lanes s speed k steps) c (c + 1) (map (λ z. z.cell) (map polygon_of polys)) refl never h.cells_are;
     each = h.each;
   })
+
+  -- no cell from c up to before d is reached
+  pub polygons_on : (c d : ℕ) (polys : List LanePoly) → c ≤ d → ((x : ℕ) → c ≤ x → x < d → IsReached lanes s speed k steps x → ⊥) → ArePolygonsBelow lanes s speed k steps c polys → ArePolygonsBelow lanes s speed k steps d polys
+  polygons_on c d polys low none h = record {
+    cells_are = lists_on (IsReached lanes s speed k steps) c d (map (λ z. z.cell) (map polygon_of polys)) low none h.cells_are;
+    each = h.each;
+  }
 
   pub polygons_all : (c : ℕ) (polys : List LanePoly) → length (cells lanes) ≤ c → ArePolygonsBelow lanes s speed k steps c polys → AreLanePolygons lanes s speed k steps (map polygon_of polys)
   polygons_all c polys l h = record { cells_are = whole lanes s speed k steps c (map (λ z. z.cell) (map polygon_of polys)) l h.cells_are; each = h.each }

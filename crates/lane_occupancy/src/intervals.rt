@@ -1,15 +1,16 @@
 //! The intervals that cells are reached in first.
 
-ghost use Rattle.std.specs.Prelude.{◌≡◌, ◌<◌, ◌≤◌, ℕ, length, slice_index_or, IfOk, IfSome, IfNone};
+ghost use Rattle.std.specs.Prelude.{◌≡◌, ◌<◌, ◌≤◌, ℕ, List, Option, Some, length, slice_index_or, IfOk, IfSome, IfNone};
 ghost use Rattle.std.specs.List.Sorted.{IsNonDecreasingBy};
 ghost use Rattle.spot_terms.specs.Bodies.{IsLeast};
 ghost use Rattle.spot_terms.specs.LanePolygons.{reach_of};
 ghost use Rattle.spot_terms.specs.Motions.{IsStartSpeed};
 ghost use Rattle.spot_terms.specs.Ranges.{IsStart};
+ghost use Rattle.lane_paths.specs.Labels.{label_at};
 ghost use Rattle.lane_occupancy.specs.Reaches.{ends_at, IsWithin};
 
 use crate::reach::reach_length;
-use lane_paths::LabelTable;
+use lane_paths::CellLabel;
 use spot_terms::{AccStart, LAST_TICK, MOST_STEPS, MOST_TICKS};
 use std::alloc::{AllocError, Global};
 
@@ -45,14 +46,13 @@ fn reach_at(s: &AccStart, speed: u64, ticks: u32) -> u64
 }
 
 /// The first interval at whose end a cell's label is at most the reach length; `None` where there is none.
-pub(crate) fn first_interval(labels: &LabelTable, ends: &[u64], c: u32) -> Option<u32>
+pub(crate) fn first_interval(ends: &[u64], x: &CellLabel) -> Option<u32>
     requires few { length ends.now ≤ MOST_STEPS }
     requires ends { IsNonDecreasingBy (λ end. end) ends.now }
-    ensures some { IfSome result (λ i. IsLeast (IsWithin labels.now ends.now c) i) }
-    ensures none { IfNone result ((i : ℕ) → IsWithin labels.now ends.now c i → ⊥) }
+    ensures some { IfSome result (λ i. (labels : List (Option ℕ)) → label_at labels x.now.cell ≡ Some x.now.label → IsLeast (IsWithin labels ends.now x.now.cell) i) }
+    ensures none { IfNone result ((labels : List (Option ℕ)) → label_at labels x.now.cell ≡ Some x.now.label → (i : ℕ) → IsWithin labels ends.now x.now.cell i → ⊥) }
 {
-    let label = labels.get(c)?;
-    let first = ends_below(ends, label);
+    let first = ends_below(ends, x.label);
     if first < ends.len() {
         Some(first as u32)
     } else {

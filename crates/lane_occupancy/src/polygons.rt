@@ -48,9 +48,12 @@ pub fn reached_cells(
     ensures { IfOk result (λ count. HasCount net.now s.now k steps count) }
 {
     let ends = interval_ends(alloc, s, start_speed(&s.b), k, steps)?;
+    let reached = labels.list();
+    let cells = net.len();
     let mut count = 0;
-    for c in 0..net.len() {
-        if first_interval(labels, &ends, c).is_some() {
+    for x in reached {
+        prove!(x.cell < cells);
+        if first_interval(&ends, x).is_some() {
             count += 1;
         }
     }
@@ -82,12 +85,13 @@ pub fn lane_polys(
 {
     let ends = interval_ends(alloc, s, start_speed(&s.b), k, steps)?;
     let body = body_poly(s.r);
+    let reached = labels.list();
     let mut polys = Vec::new(alloc);
-    for c in 0..net.len() {
-        if let Some(first) = first_interval(labels, &ends, c) {
-            let poly = sum_hull(&net.cell(c).poly, &body);
+    for x in reached {
+        if let Some(first) = first_interval(&ends, x) {
+            let poly = sum_hull(&net.cell(x.cell).poly, &body);
             polys.push(LanePoly {
-                cell: c,
+                cell: x.cell,
                 first,
                 poly,
             })?;

@@ -1,6 +1,5 @@
 ghost use Rattle.std.specs.Prelude.{◌≤◌, length, IfOk};
-ghost use Rattle.spot_terms.specs.Ranges.{IsLaneInRange, IsPairInRange, IsStart, lane_size};
-ghost use Rattle.lanelets.specs.Buildable.{AreBuildable};
+ghost use Rattle.spot_terms.specs.Ranges.{AreBuildable, IsLaneInRange, IsPairInRange, IsStart, lane_size};
 
 use super::*;
 use convex_poly::Pt;

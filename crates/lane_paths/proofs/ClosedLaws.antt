@@ -154,12 +154,12 @@ cell_at_most lanes lengths c count end entries b ahead same low high is every al
 
 -- ---- what is kept of blocks
 
-at_most_on : (lanes : List Lane) (P : Edge → Type 0) (m : ℕ) (before after : ShortestLengths) (n c : ℕ) → Relaxes P m before after → IsAtMost lanes before.lengths.items n c → IsAtMost lanes after.lengths.items n c
+at_most_on : (lanes : List Lane) (P : Edge → Type 0) (m : ℕ) (before after : ShortestLengths) (n c : ℕ) → Relaxes P m before after → IsAtMost lanes before.lengths n c → IsAtMost lanes after.lengths n c
 at_most_on lanes P m before after n c g a = record { end = most_kept P m c n before after g a.end; ahead = λ d s. most_kept P m (length (cells lanes) + d) n before after g (a.ahead d s) }
 
 -- where lengths only fall, it still holds
-pub closed_on : (lanes : List Lane) (P : Edge → Type 0) (m : ℕ) (before after : ShortestLengths) (closed : List (Option ℕ)) → Relaxes P m before after → AreClosed lanes before.lengths.items closed → AreClosed lanes after.lengths.items closed
-closed_on lanes P m before after closed g k r n block h b = all_map (IsAtMost lanes before.lengths.items n) (IsAtMost lanes after.lengths.items n) (λ c a. at_most_on lanes P m before after n c g a) block (k r n block h b)
+pub closed_on : (lanes : List Lane) (P : Edge → Type 0) (m : ℕ) (before after : ShortestLengths) (closed : List (Option ℕ)) → Relaxes P m before after → AreClosed lanes before.lengths closed → AreClosed lanes after.lengths closed
+closed_on lanes P m before after closed g k r n block h b = all_map (IsAtMost lanes before.lengths n) (IsAtMost lanes after.lengths n) (λ c a. at_most_on lanes P m before after n c g a) block (k r n block h b)
 
 -- a number is kept for one more
 pub closed_more : (lanes : List Lane) (lengths closed now : List (Option ℕ)) (s m r : ℕ) (block : List ℕ) → AreClosed lanes lengths closed → IsBlockOf lanes s block → slice_get block 0 ≡ Some r → AllByRecursion (IsAtMost lanes lengths m) block → IsKept closed r m now
@@ -178,17 +178,17 @@ block_first lanes s block b = slice_get-get_or block 0 0 (got_below block 0 b.fi
 -- ---- a block that is closed to a waypoint
 
 -- a link in a cell with lengths of at most n makes none less from there on
-link_settled : (lanes : List Lane) (p : Pt) (c m n : ℕ) (e : Edge) (now : ShortestLengths) → LinksIn lanes p c e → n ≤ m → IsAtMost lanes now.lengths.items n c → HasAtMost now.lengths.items e.to (m + e.gap)
+link_settled : (lanes : List Lane) (p : Pt) (c m n : ℕ) (e : Edge) (now : ShortestLengths) → LinksIn lanes p c e → n ≤ m → IsAtMost lanes now.lengths n c → HasAtMost now.lengths e.to (m + e.gap)
 link_settled lanes p c m n e now link low a = elim (end_or_entry lanes p c e.to link.v link.enters) [
-  | inl end ↦ most_on now.lengths.items e.to n (m + e.gap) (omega (arith, low)) (subst (λ (z : ℕ). HasAtMost now.lengths.items z n) (sym end) a.end)
-  | inr (d, ahead, entry) ↦ most_on now.lengths.items e.to n (m + e.gap) (omega (arith, low)) (subst (λ (z : ℕ). HasAtMost now.lengths.items z n) (sym entry) (a.ahead d ahead))
+  | inl end ↦ most_on now.lengths e.to n (m + e.gap) (omega (arith, low)) (subst (λ (z : ℕ). HasAtMost now.lengths z n) (sym end) a.end)
+  | inr (d, ahead, entry) ↦ most_on now.lengths e.to n (m + e.gap) (omega (arith, low)) (subst (λ (z : ℕ). HasAtMost now.lengths z n) (sym entry) (a.ahead d ahead))
 ]
 
 -- a way that is as long as each length in the block betters none
-pub block_settled : (lanes : List Lane) (p : Pt) (i s m r : ℕ) (block : List ℕ) (closed : List (Option ℕ)) (now : ShortestLengths) → AreClosed lanes now.lengths.items closed → IsBlockOf lanes s block → slice_get block 0 ≡ Some r → HasAtMost closed r m
+pub block_settled : (lanes : List Lane) (p : Pt) (i s m r : ℕ) (block : List ℕ) (closed : List (Option ℕ)) (now : ShortestLengths) → AreClosed lanes now.lengths closed → IsBlockOf lanes s block → slice_get block 0 ≡ Some r → HasAtMost closed r m
     → Relaxes (LinksInCells lanes p i block) m now now
 block_settled lanes p i s m r block closed now k b first (n, kept, low) = relaxes_settled (LinksInCells lanes p i block) m now (λ e (c, j, (from, link)) limit.
-    let a = all_included (IsAtMost lanes now.lengths.items n) block c (k r n block kept (subst (λ (z : ℕ). IsBlockAt lanes z block) (same_Some b.first r (sym b.first_is ∙ first)) b.at)) j in
+    let a = all_included (IsAtMost lanes now.lengths n) block c (k r n block kept (subst (λ (z : ℕ). IsBlockAt lanes z block) (same_Some b.first r (sym b.first_is ∙ first)) b.at)) j in
     link_settled lanes p c m n e now link low a)
 
 -- ---- block after block
@@ -242,7 +242,7 @@ all_none lanes lengths closed b k = record {
 }
 
 -- a way that is as long as each length in the class betters none
-pub class_settled : (lanes : List Lane) (p : Pt) (i s m r : ℕ) (closed : Closed) (now : ShortestLengths) → AreAllClosed lanes now.lengths.items closed → IsBeside lanes (cells lanes) r s → HasAtMost closed.classes.greatest.items r m → Relaxes (LinksBeside lanes p i s) m now now
+pub class_settled : (lanes : List Lane) (p : Pt) (i s m r : ℕ) (closed : Closed) (now : ShortestLengths) → AreAllClosed lanes now.lengths closed → IsBeside lanes (cells lanes) r s → HasAtMost closed.classes.greatest.items r m → Relaxes (LinksBeside lanes p i s) m now now
 class_settled lanes p i s m r closed now k b (n, kept, low) = relaxes_settled (LinksBeside lanes p i s) m now (λ e (c, j, (from, link)) limit.
     let a = k.classes r n c kept (beside_join lanes (cells lanes) c s r (beside_back lanes (cells lanes) r s b) j) in
     link_settled lanes p c m n e now link low a)
@@ -250,7 +250,7 @@ class_settled lanes p i s m r closed now k b (n, kept, low) = relaxes_settled (L
 -- ---- after a class
 
 -- where lengths only fall, what is known of classes still holds
-pub classes_on : (lanes : List Lane) (P : Edge → Type 0) (m : ℕ) (before after : ShortestLengths) (closed now : Closed) → Relaxes P m before after → now.classes.greatest.items ≡ closed.classes.greatest.items → AreAllClosed lanes before.lengths.items closed → AreClosed lanes after.lengths.items now.blocks.greatest.items → AreAllClosed lanes after.lengths.items now
+pub classes_on : (lanes : List Lane) (P : Edge → Type 0) (m : ℕ) (before after : ShortestLengths) (closed now : Closed) → Relaxes P m before after → now.classes.greatest.items ≡ closed.classes.greatest.items → AreAllClosed lanes before.lengths closed → AreClosed lanes after.lengths now.blocks.greatest.items → AreAllClosed lanes after.lengths now
 classes_on lanes P m before after closed now g same k blocks = record {
   blocks = blocks;
   classes = λ r n c h s. at_most_on lanes P m before after n c g (k.classes r n c (subst (λ (z : List (Option ℕ)). slice_get z r ≡ Some (Some n)) same h) s);

@@ -14,7 +14,7 @@ pub includes_moved : {X : Type 0} (xs ys : List X) (x : X) → IsPermutation xs 
 includes_moved xs ys x s i = let (k, inside, is) = Contains-permutation xs ys x s (place_of xs x x i) in subst (Includes ys) is (includes_at ys k x inside)
 
 -- the hull of a cell was lowered
-pub end_step : (c n : ℕ) (before after : ShortestLengths) → c < before.count → after.count ≡ before.count → after.limit ≡ before.limit → after.lengths.items ≡ slice_set before.lengths.items c (Some n) → after.frontier ≡ before.frontier → IsStep c n before after
+pub end_step : (c n : ℕ) (before after : ShortestLengths) → c < before.count → after.count ≡ before.count → after.limit ≡ before.limit → after.lengths ≡ slice_set before.lengths c (Some n) → after.frontier ≡ before.frontier → IsStep c n before after
 end_step c n before after inside count limit lengths frontier = record {
   count_is = count;
   limit_is = limit;
@@ -29,7 +29,7 @@ end_step c n before after inside count limit lengths frontier = record {
     one_more k = omega arith
 
 -- the entry of a cell was lowered
-pub entry_step : (d n : ℕ) (before after : ShortestLengths) → d < before.count → after.count ≡ before.count → after.limit ≡ before.limit → after.lengths.items ≡ slice_set before.lengths.items (before.count + d) (Some n)
+pub entry_step : (d n : ℕ) (before after : ShortestLengths) → d < before.count → after.count ≡ before.count → after.limit ≡ before.limit → after.lengths ≡ slice_set before.lengths (before.count + d) (Some n)
     → IsPermutation ((n, d) ∷ before.frontier) after.frontier → IsStep (before.count + d) n before after
 entry_step d n before after inside count limit lengths frontier = record {
   count_is = count;

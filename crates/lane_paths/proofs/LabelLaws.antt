@@ -166,7 +166,7 @@ settled_labels lanes p limit first lengths long f done = record {
     count_take xs n h = length-take-le n xs h
 
 -- the places of a search that begins
-pub begun_places : (lanes : List Lane) (n : ℕ) (s : ShortestLengths) → s.count ≡ n → n ≡ length (cells lanes) → AreFirst n s.lengths.items → s.frontier ≡ [] → HasPlaces lanes s
+pub begun_places : (lanes : List Lane) (n : ℕ) (s : ShortestLengths) → s.count ≡ n → n ≡ length (cells lanes) → AreFirst n s.lengths → s.frontier ≡ [] → HasPlaces lanes s
 begun_places lanes n s count same begun none = record {
   count_is = count ∙ same;
   many = begun.count ∙ ap (λ (z : ℕ). z + z + 1) (sym count);
@@ -174,11 +174,11 @@ begun_places lanes n s count same begun none = record {
 }
 
 -- the labels of a whole search
-pub search_labels : (lanes : List Lane) (p : Pt) (limit n : ℕ) (starts : List ℕ) (a b c : ShortestLengths) (labels : List (Option ℕ)) → a.count ≡ n → n ≡ length (cells lanes) → a.limit ≡ limit → AreFirst n a.lengths.items → a.frontier ≡ []
-    → ((s : ℕ) → IsStartCell lanes p s → Includes starts s) → Relaxes (LinksFromStart lanes p starts) 0 a b → ((q : Pt) (first : List (Option ℕ)) → IsUnderWay lanes q first b → AreSettled lanes q b.limit first c.lengths.items)
-    → HasPlaces lanes c → labels ≡ take c.count c.lengths.items → AreLabels lanes p limit labels
+pub search_labels : (lanes : List Lane) (p : Pt) (limit n : ℕ) (starts : List ℕ) (a b c : ShortestLengths) (labels : List (Option ℕ)) → a.count ≡ n → n ≡ length (cells lanes) → a.limit ≡ limit → AreFirst n a.lengths → a.frontier ≡ []
+    → ((s : ℕ) → IsStartCell lanes p s → Includes starts s) → Relaxes (LinksFromStart lanes p starts) 0 a b → ((q : Pt) (first : List (Option ℕ)) → IsUnderWay lanes q first b → AreSettled lanes q b.limit first c.lengths)
+    → HasPlaces lanes c → labels ≡ take c.count c.lengths → AreLabels lanes p limit labels
 search_labels lanes p limit n starts a b c labels count same limit_is begun none every g h places is =
-    let under = started lanes p starts a b every (begun_places lanes n a count same begun none) (subst (λ (z : ℕ). AreFirst z a.lengths.items) (sym count) begun) g in
-    let done : AreSettled lanes p limit a.lengths.items c.lengths.items = subst (λ (z : ℕ). AreSettled lanes p z a.lengths.items c.lengths.items) (g.limit_same ∙ limit_is) (h p a.lengths.items under) in
-    subst (AreLabels lanes p limit) (sym (is ∙ ap (λ (z : ℕ). take z c.lengths.items) places.count_is))
-    (settled_labels lanes p limit a.lengths.items c.lengths.items (let many = places.many in let m = places.count_is in omega (arith, many, m)) (subst (λ (z : ℕ). AreFirst z a.lengths.items) same begun) done)
+    let under = started lanes p starts a b every (begun_places lanes n a count same begun none) (subst (λ (z : ℕ). AreFirst z a.lengths) (sym count) begun) g in
+    let done : AreSettled lanes p limit a.lengths c.lengths = subst (λ (z : ℕ). AreSettled lanes p z a.lengths c.lengths) (g.limit_same ∙ limit_is) (h p a.lengths under) in
+    subst (AreLabels lanes p limit) (sym (is ∙ ap (λ (z : ℕ). take z c.lengths) places.count_is))
+    (settled_labels lanes p limit a.lengths c.lengths (let many = places.many in let m = places.count_is in omega (arith, many, m)) (subst (λ (z : ℕ). AreFirst z a.lengths) same begun) done)

@@ -14,5 +14,6 @@ pub mod FrontierLists
 pub mod ShortestLengthLaws
 pub mod LabelLaws
 pub mod LengthLists
+pub mod ReachedLists
 pub mod LinkLaws
 pub mod ClosedLaws

@@ -32,11 +32,11 @@ pub most_on : (lengths : List (Option ℕ)) (i k m : ℕ) → k ≤ m → HasAtM
 most_on lengths i k m l h = (h.0, h.1, let t = h.2 in omega (arith, t, l))
 
 -- a length that is kept
-pub most_kept : (P : Edge → Type 0) (m i k : ℕ) (a b : ShortestLengths) → Relaxes P m a b → HasAtMost a.lengths.items i k → HasAtMost b.lengths.items i k
-most_kept P m i k a b g h = most_on b.lengths.items i h.0 k h.2 (g.kept i h.0 h.1)
+pub most_kept : (P : Edge → Type 0) (m i k : ℕ) (a b : ShortestLengths) → Relaxes P m a b → HasAtMost a.lengths i k → HasAtMost b.lengths i k
+most_kept P m i k a b g h = most_on b.lengths i h.0 k h.2 (g.kept i h.0 h.1)
 
 -- nothing was done, where no edge makes a length less
-pub relaxes_settled : (P : Edge → Type 0) (m : ℕ) (s : ShortestLengths) → ((e : Edge) → P e → m + e.gap ≤ s.limit → HasAtMost s.lengths.items e.to (m + e.gap)) → Relaxes P m s s
+pub relaxes_settled : (P : Edge → Type 0) (m : ℕ) (s : ShortestLengths) → ((e : Edge) → P e → m + e.gap ≤ s.limit → HasAtMost s.lengths e.to (m + e.gap)) → Relaxes P m s s
 relaxes_settled P m s settled = record {
   count_same = refl;
   limit_same = refl;
@@ -69,8 +69,8 @@ relaxes_then P Q R m a b c g h first then back = record {
     | inl p ↦ most_kept Q m e.to (m + e.gap) b c h (g.settled e p low)
     | inr q ↦ h.settled e q (subst (λ (z : ℕ). m + e.gap ≤ z) (sym g.limit_same) low)
   ];
-  noted = λ d k is. elim (h.noted d k (subst (λ (z : ℕ). slice_get c.lengths.items (z + d) ≡ Some (Some k)) (sym g.count_same) is)) [
-    | inl j ↦ elim (g.noted d k (subst (λ (z : ℕ). slice_get b.lengths.items (z + d) ≡ Some (Some k)) g.count_same j)) [ inl old ↦ inl old | inr new ↦ inr (h.waits (k, d) new) ]
+  noted = λ d k is. elim (h.noted d k (subst (λ (z : ℕ). slice_get c.lengths (z + d) ≡ Some (Some k)) (sym g.count_same) is)) [
+    | inl j ↦ elim (g.noted d k (subst (λ (z : ℕ). slice_get b.lengths (z + d) ≡ Some (Some k)) g.count_same j)) [ inl old ↦ inl old | inr new ↦ inr (h.waits (k, d) new) ]
     | inr new ↦ inr new
   ];
   waits = λ x i. h.waits x (g.waits x i);
@@ -111,31 +111,31 @@ on_ok (Err e) P Q f h = h
 -- where it is so by way of what is at most the gap, the length by way of x is no less than the one that there is
 pub not_lesser : (s : ShortestLengths) (x : Waypoint) (to : ℕ) (points : List Pt) (n : ℕ) → ((g : ℕ) → IsGap x.shape points g → n ≤ g) → IsDone s (x.length + n) to → IsNotLesser s x to points
 not_lesser s x to points n least (inl far) g gap low = absurd (let l = least g gap in omega (arith, l, far, low))
-not_lesser s x to points n least (inr has) g gap low = let l = least g gap in most_on s.lengths.items to (x.length + n) (x.length + g) (omega (arith, l)) has
+not_lesser s x to points n least (inr has) g gap low = let l = least g gap in most_on s.lengths to (x.length + n) (x.length + g) (omega (arith, l)) has
 
 -- the step made no length less
-pub step_none : (i j m : ℕ) (a b : List Pt) (s : ShortestLengths) → ((g : ℕ) → IsGap a b g → m + g ≤ s.limit → HasAtMost s.lengths.items j (m + g)) → Relaxes (StepsTo i j a b) m s s
-step_none i j m a b s none = relaxes_settled (StepsTo i j a b) m s (λ e (from, to, gap) low. subst (λ (z : ℕ). HasAtMost s.lengths.items z (m + e.gap)) (sym to) (none e.gap gap low))
+pub step_none : (i j m : ℕ) (a b : List Pt) (s : ShortestLengths) → ((g : ℕ) → IsGap a b g → m + g ≤ s.limit → HasAtMost s.lengths j (m + g)) → Relaxes (StepsTo i j a b) m s s
+step_none i j m a b s none = relaxes_settled (StepsTo i j a b) m s (λ e (from, to, gap) low. subst (λ (z : ℕ). HasAtMost s.lengths z (m + e.gap)) (sym to) (none e.gap gap low))
 
 -- what is known of a step that made a length less
 pub record IsStep (j n : ℕ) (before after : ShortestLengths) : Type 0 where
   pub count_is : after.count ≡ before.count
   pub limit_is : after.limit ≡ before.limit
-  pub lengths_are : after.lengths.items ≡ slice_set before.lengths.items j (Some n)
+  pub lengths_are : after.lengths ≡ slice_set before.lengths j (Some n)
   pub noted : (d : ℕ) → j ≡ before.count + d → Includes after.frontier (n, d)
   pub waits : (x : ℕ × ℕ) → Includes before.frontier x → Includes after.frontier x
   pub within : (x : ℕ × ℕ) → Includes after.frontier x → Includes before.frontier x ⊎ (x.1 < before.count)
   pub more : length after.frontier ≤ length before.frontier + 1
 
 -- the step made a length less
-pub step_less : (i j m n g : ℕ) (a b : List Pt) (before after : ShortestLengths) → IsStep j n before after → j < length before.lengths.items → IsGap a b g → n ≡ m + g → n ≤ before.limit
-    → ((k : ℕ) → slice_get before.lengths.items j ≡ Some (Some k) → n < k) → Relaxes (StepsTo i j a b) m before after
+pub step_less : (i j m n g : ℕ) (a b : List Pt) (before after : ShortestLengths) → IsStep j n before after → j < length before.lengths → IsGap a b g → n ≡ m + g → n ≤ before.limit
+    → ((k : ℕ) → slice_get before.lengths j ≡ Some (Some k) → n < k) → Relaxes (StepsTo i j a b) m before after
 step_less i j m n g a b before after s inside gap sum low above = record {
   count_same = s.count_is;
   limit_same = s.limit_is;
-  many_same = ap length s.lengths_are ∙ length_set before.lengths.items j (Some n);
+  many_same = ap length s.lengths_are ∙ length_set before.lengths j (Some n);
   kept = λ q k is. elim (either q) [
-    | inl (same, new) ↦ (n, new, let l = above k (subst (λ (z : ℕ). slice_get before.lengths.items z ≡ Some (Some k)) same is) in omega (arith, l))
+    | inl (same, new) ↦ (n, new, let l = above k (subst (λ (z : ℕ). slice_get before.lengths z ≡ Some (Some k)) same is) in omega (arith, l))
     | inr (other, old) ↦ (k, old ∙ is, omega arith)
   ];
   made = λ q k is. elim (either q) [
@@ -158,14 +158,14 @@ step_less i j m n g a b before after s inside gap sum low above = record {
     number : (x y : ℕ) → Some (Some x) ≡ Some (Some y) → x ≡ y
     number x y e = same_Some x y (same_Some (Some x) (Some y) e)
 
-    either : (q : ℕ) → ((q ≡ j) × (slice_get after.lengths.items q ≡ Some (Some n))) ⊎ (((j < q) ⊎ (q < j)) × (slice_get after.lengths.items q ≡ slice_get before.lengths.items q))
-    either q = subst (λ (z : List (Option ℕ)). ((q ≡ j) × (slice_get z q ≡ Some (Some n))) ⊎ (((j < q) ⊎ (q < j)) × (slice_get z q ≡ slice_get before.lengths.items q))) (sym s.lengths_are)
-        (get_set_either before.lengths.items j q (Some n) inside)
+    either : (q : ℕ) → ((q ≡ j) × (slice_get after.lengths q ≡ Some (Some n))) ⊎ (((j < q) ⊎ (q < j)) × (slice_get after.lengths q ≡ slice_get before.lengths q))
+    either q = subst (λ (z : List (Option ℕ)). ((q ≡ j) × (slice_get z q ≡ Some (Some n))) ⊎ (((j < q) ⊎ (q < j)) × (slice_get z q ≡ slice_get before.lengths q))) (sym s.lengths_are)
+        (get_set_either before.lengths j q (Some n) inside)
 
     less : size_of after ≤ size_of before
     less =
-        let l : sum_of before.limit (slice_set before.lengths.items j (Some n)) < sum_of before.limit before.lengths.items = sum_set before.limit before.lengths.items j n inside low above in
-        let e : sum_of after.limit after.lengths.items ≡ sum_of before.limit (slice_set before.lengths.items j (Some n)) = ap (λ (z : ℕ). sum_of z after.lengths.items) s.limit_is ∙ ap (sum_of before.limit) s.lengths_are in
+        let l : sum_of before.limit (slice_set before.lengths j (Some n)) < sum_of before.limit before.lengths = sum_set before.limit before.lengths j n inside low above in
+        let e : sum_of after.limit after.lengths ≡ sum_of before.limit (slice_set before.lengths j (Some n)) = ap (λ (z : ℕ). sum_of z after.lengths) s.limit_is ∙ ap (sum_of before.limit) s.lengths_are in
         let k = s.more in
         omega (arith, l, e, k)
 

@@ -7,3 +7,4 @@ pub mod Edges
 pub mod Waypoints
 pub mod Relaxations
 pub mod Labels
+pub mod Reached

@@ -112,9 +112,9 @@ fn greater(a: u64, b: u64) -> u64
 
 // The greatest length of the entries of some cells, where all have one.
 fn greatest_ahead(search: &ShortestLengths, ahead: &[u32]) -> Option<u64>
-    requires many { length search.now.lengths.items ≡ search.now.count + search.now.count + 1 }
+    requires many { length search.now.lengths ≡ search.now.count + search.now.count + 1 }
     requires within { AllByRecursion (λ d. d < search.now.count) ahead.now }
-    ensures { IfSome result (λ most. AllByRecursion (λ d. HasAtMost search.now.lengths.items (search.now.count + d) most) ahead.now) }
+    ensures { IfSome result (λ most. AllByRecursion (λ d. HasAtMost search.now.lengths (search.now.count + d) most) ahead.now) }
 {
     let mut most = 0;
     for d in ahead {
@@ -130,7 +130,7 @@ fn greatest_ahead(search: &ShortestLengths, ahead: &[u32]) -> Option<u64>
 fn greatest_in(search: &ShortestLengths, net: &Network, c: u32) -> Option<u64>
     requires places { HasPlaces net.now search.now }
     requires within { c < length (cells net.now) }
-    ensures { IfSome result (λ most. IsAtMost net.now search.now.lengths.items most c) }
+    ensures { IfSome result (λ most. IsAtMost net.now search.now.lengths most c) }
 {
     let Some(end) = search.length_at(c as usize) else {
         return None;
@@ -145,7 +145,7 @@ fn greatest_in(search: &ShortestLengths, net: &Network, c: u32) -> Option<u64>
 pub(crate) fn greatest_among(search: &ShortestLengths, net: &Network, block: &[u32]) -> Option<u64>
     requires places { HasPlaces net.now search.now }
     requires within { AllByRecursion (λ c. c < length (cells net.now)) block.now }
-    ensures { IfSome result (λ most. AllByRecursion (IsAtMost net.now search.now.lengths.items most) block.now) }
+    ensures { IfSome result (λ most. AllByRecursion (IsAtMost net.now search.now.lengths most) block.now) }
 {
     let mut most = 0;
     for c in block {

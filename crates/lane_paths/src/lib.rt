@@ -6,12 +6,14 @@ mod closed;
 mod frontier;
 mod gaps;
 mod label_table;
+mod lengths;
 mod links;
 mod shortest_lengths;
 
 pub use gaps::gap;
-pub use label_table::{LabelTable, labels};
+pub use label_table::{LabelSearch, LabelTable, labels};
 pub use lanelets::Network;
+pub use lengths::CellLabel;
 pub use spot_terms::Pt;
 
 #[cfg(test)]

@@ -36,11 +36,11 @@ pub(crate) fn relax_start(
     starts: &[u32],
 ) -> Result<(), AllocError>
     requires places { HasPlaces net.now search.old }
-    requires closed { AreAllClosed net.now search.old.lengths.items closed.old }
+    requires closed { AreAllClosed net.now search.old.lengths closed.old }
     requires starts { AllByRecursion (IsStartCell net.now start) starts.now }
     requires near { (c : ℕ) → IsStartCell net.now start c → IsPosition start }
     ensures places { OnOk result (HasPlaces net.now search.new) }
-    ensures closed { OnOk result (AreAllClosed net.now search.new.lengths.items closed.new) }
+    ensures closed { OnOk result (AreAllClosed net.now search.new.lengths closed.new) }
     ensures relaxes { OnOk result (Relaxes (LinksFromStart net.now start starts.now) 0 search.old search.new) }
 {
     for s in starts {
@@ -61,9 +61,9 @@ pub(crate) fn relax_all(
     net: &Network,
 ) -> Result<(), AllocError>
     requires places { HasPlaces net.now search.old }
-    requires closed { AreAllClosed net.now search.old.lengths.items closed.old }
+    requires closed { AreAllClosed net.now search.old.lengths closed.old }
     ensures places { OnOk result (HasPlaces net.now search.new) }
-    ensures settled { OnOk result ((p : Point) (first : List (Option ℕ)) → IsUnderWay net.now p first search.old → AreSettled net.now p search.old.limit first search.new.lengths.items) }
+    ensures settled { OnOk result ((p : Point) (first : List (Option ℕ)) → IsUnderWay net.now p first search.old → AreSettled net.now p search.old.limit first search.new.lengths) }
 {
     while relax_next(search, closed, net)? {}
     Ok(())
@@ -76,9 +76,9 @@ fn relax_next(
     net: &Network,
 ) -> Result<bool, AllocError>
     requires places { HasPlaces net.now search.old }
-    requires closed { AreAllClosed net.now search.old.lengths.items closed.old }
+    requires closed { AreAllClosed net.now search.old.lengths closed.old }
     ensures places { OnOk result (HasPlaces net.now search.new) }
-    ensures closed { OnOk result (AreAllClosed net.now search.new.lengths.items closed.new) }
+    ensures closed { OnOk result (AreAllClosed net.now search.new.lengths closed.new) }
     ensures limit { OnOk result (search.new.limit ≡ search.old.limit) }
     ensures less { IfOk result (λ more. more ≡ true → size_of search.new < size_of search.old) }
     ensures none { IfOk result (λ more. more ≡ false → search.new.frontier ≡ []) }
@@ -103,10 +103,10 @@ fn relax_entry(
     d: u32,
 ) -> Result<(), AllocError>
     requires places { HasPlaces net.now search.old }
-    requires closed { AreAllClosed net.now search.old.lengths.items closed.old }
+    requires closed { AreAllClosed net.now search.old.lengths closed.old }
     requires within { d < length (cells net.now) }
     ensures places { OnOk result (HasPlaces net.now search.new) }
-    ensures closed { OnOk result (AreAllClosed net.now search.new.lengths.items closed.new) }
+    ensures closed { OnOk result (AreAllClosed net.now search.new.lengths closed.new) }
     ensures relaxes { OnOk result ((p : Point) → Relaxes (LinksOf net.now p (entry_at net.now p d)) so_far search.old search.new) }
 {
     let from = Waypoint {
@@ -125,11 +125,11 @@ fn relax_waypoint(
     from: &Waypoint,
 ) -> Result<(), AllocError>
     requires places { HasPlaces net.now search.old }
-    requires closed { AreAllClosed net.now search.old.lengths.items closed.old }
+    requires closed { AreAllClosed net.now search.old.lengths closed.old }
     requires waypoint { (p : Point) × (i : ℕ) × IsWaypoint net.now p i from.now.cell from.now }
     requires within { from.now.cell < length (cells net.now) }
     ensures places { OnOk result (HasPlaces net.now search.new) }
-    ensures closed { OnOk result (AreAllClosed net.now search.new.lengths.items closed.new) }
+    ensures closed { OnOk result (AreAllClosed net.now search.new.lengths closed.new) }
     ensures relaxes { OnOk result ((p : Point) (i : ℕ) → IsWaypoint net.now p i from.now.cell from.now → Relaxes (LinksBeside net.now p i from.now.cell) from.now.length search.old search.new) }
 {
     let class = net.beside(from.cell);
@@ -153,12 +153,12 @@ fn relax_blocks(
     class: &[u32],
 ) -> Result<(), AllocError>
     requires places { HasPlaces net.now search.old }
-    requires closed { AreClosed net.now search.old.lengths.items closed.old.greatest.items }
+    requires closed { AreClosed net.now search.old.lengths closed.old.greatest.items }
     requires waypoint { (p : Point) × (i : ℕ) × IsWaypoint net.now p i from.now.cell from.now }
     requires within { from.now.cell < length (cells net.now) }
     requires class { Lists (λ c. IsBeside net.now (cells net.now) c from.now.cell) class.now }
     ensures places { OnOk result (HasPlaces net.now search.new) }
-    ensures closed { OnOk result (AreClosed net.now search.new.lengths.items closed.new.greatest.items) }
+    ensures closed { OnOk result (AreClosed net.now search.new.lengths closed.new.greatest.items) }
     ensures relaxes { OnOk result ((p : Point) (i : ℕ) → IsWaypoint net.now p i from.now.cell from.now → Relaxes (LinksBeside net.now p i from.now.cell) from.now.length search.old search.new) }
 {
     let mut first = 0;
@@ -179,12 +179,12 @@ fn relax_block(
     block: &[u32],
 ) -> Result<(), AllocError>
     requires places { HasPlaces net.now search.old }
-    requires closed { AreClosed net.now search.old.lengths.items closed.old.greatest.items }
+    requires closed { AreClosed net.now search.old.lengths closed.old.greatest.items }
     requires waypoint { (p : Point) × (i : ℕ) × IsWaypoint net.now p i from.now.cell from.now }
     requires within { from.now.cell < length (cells net.now) }
     requires block { IsBlockOf net.now from.now.cell block.now }
     ensures places { OnOk result (HasPlaces net.now search.new) }
-    ensures closed { OnOk result (AreClosed net.now search.new.lengths.items closed.new.greatest.items) }
+    ensures closed { OnOk result (AreClosed net.now search.new.lengths closed.new.greatest.items) }
     ensures relaxes { OnOk result ((p : Point) (i : ℕ) → IsWaypoint net.now p i from.now.cell from.now → Relaxes (LinksInCells net.now p i block.now) from.now.length search.old search.new) }
 {
     if closed.is_closed(block[0], from.length) {
@@ -230,7 +230,7 @@ fn relax_in_cell(
     ensures places { OnOk result (HasPlaces net.now search.new) }
     ensures relaxes { OnOk result ((p : Point) (i : ℕ) → IsWaypoint net.now p i c from.now → Relaxes (LinksFrom net.now p i c) from.now.length search.old search.new) }
 {
-    search.reach_end(from, c, &net.cell(c).poly);
+    search.reach_end(from, c, &net.cell(c).poly)?;
     relax_ahead(search, net, from, net.ahead(c))
 }
 

@@ -8,6 +8,8 @@ ghost use Rattle.lane_paths.specs.Relaxations.{IsDone, IsLesser, IsNotLesser, Re
 
 use crate::frontier::Frontier;
 use crate::gaps::{gap, gap_at_least};
+use crate::label_table::LabelTable;
+use crate::lengths::Lengths;
 use convex_poly::Poly;
 use spot_terms::Pt;
 use std::alloc::{AllocError, Global};
@@ -26,40 +28,51 @@ pub(crate) struct Waypoint {
 pub(crate) struct ShortestLengths {
     pub(crate) count: u32,
     pub(crate) limit: u64,
-    pub(crate) lengths: Vec<Option<u64>>,
+    pub(crate) lengths: Lengths,
     pub(crate) frontier: Frontier,
 }
 
 impl ShortestLengths {
-    /// Only the start has a length, 0.
-    pub(crate) fn new(alloc: Global, count: u32, limit: u64) -> Result<ShortestLengths, AllocError>
-        ensures count { IfOk result (λ s. s.count ≡ count) }
-        ensures limit { IfOk result (λ s. s.limit ≡ limit) }
-        ensures lengths { IfOk result (λ s. AreFirst count s.lengths.items) }
-        ensures frontier { IfOk result (λ s. s.frontier ≡ []) }
-    {
-        Ok(ShortestLengths {
-            count,
-            limit,
-            lengths: first_lengths(alloc, count)?,
+    /// Of no cells.
+    pub(crate) fn new(alloc: Global) -> ShortestLengths {
+        ShortestLengths {
+            count: 0,
+            limit: 0,
+            lengths: Lengths::new(alloc),
             frontier: Frontier::new(alloc),
-        })
+        }
+    }
+
+    /// Begins a search: of the waypoints of `count` cells only the start has a length, 0. What was reached before is forgotten,
+    /// which takes no longer than it took to reach it.
+    pub(crate) fn begin(&mut self, alloc: Global, count: u32, limit: u64) -> Result<(), AllocError>
+        ensures count { OnOk result (self.new.count ≡ count) }
+        ensures limit { OnOk result (self.new.limit ≡ limit) }
+        ensures lengths { OnOk result (AreFirst count self.new.lengths) }
+        ensures frontier { OnOk result (self.new.frontier ≡ []) }
+    {
+        let start = 2 * count as usize;
+        self.count = count;
+        self.limit = limit;
+        self.frontier = Frontier::new(alloc);
+        self.lengths.restart(start + 1)?;
+        self.lengths.set(start, 0)
     }
 
     /// The length of the waypoint with this number, where it has one.
     pub(crate) fn length_at(&self, number: usize) -> Option<u64>
-        requires { number < length self.now.lengths.items }
-        ensures { slice_get self.now.lengths.items number ≡ Some result }
+        requires { number < length self.now.lengths }
+        ensures { slice_get self.now.lengths number ≡ Some result }
     {
-        self.lengths[number]
+        self.lengths.get(number)
     }
 
     // Whether the waypoint with this number has a length that is at most `n`.
     fn has_at_most(&self, number: usize, n: u64) -> bool
-        requires { number < length self.now.lengths.items }
-        ensures { IsTrue result ↔ HasAtMost self.now.lengths.items number n }
+        requires { number < length self.now.lengths }
+        ensures { IsTrue result ↔ HasAtMost self.now.lengths number n }
     {
-        match self.lengths[number] {
+        match self.lengths.get(number) {
             Some(k) => k <= n,
             None => false,
         }
@@ -68,10 +81,10 @@ impl ShortestLengths {
     /// Whether the entry of a cell has this length.
     pub(crate) fn is_current(&self, so_far: u64, d: u32) -> bool
         requires within { d < self.now.count }
-        requires many { length self.now.lengths.items ≡ self.now.count + self.now.count + 1 }
-        ensures { IsTrue result ↔ (slice_get self.now.lengths.items (self.now.count + d) ≡ Some (Some so_far)) }
+        requires many { length self.now.lengths ≡ self.now.count + self.now.count + 1 }
+        ensures { IsTrue result ↔ (slice_get self.now.lengths (self.now.count + d) ≡ Some (Some so_far)) }
     {
-        match self.lengths[self.count as usize + d as usize] {
+        match self.lengths.get(self.count as usize + d as usize) {
             Some(k) => k == so_far,
             None => false,
         }
@@ -79,7 +92,7 @@ impl ShortestLengths {
 
     // Whether the waypoint with this number has a length that is at most a sum, or the sum is above the limit.
     fn is_done(&self, so_far: u64, further: u64, to: usize) -> bool
-        requires { to < length self.now.lengths.items }
+        requires { to < length self.now.lengths }
         ensures { IsTrue result ↔ IsDone self.now (so_far + further) to }
     {
         so_far > self.limit
@@ -90,7 +103,7 @@ impl ShortestLengths {
     // Whether the boxes tell that there is no need to go from a waypoint to one with this number and these points: it has no
     // greater length, or that is above the limit, even if the gap is only as great as they tell.
     fn is_done_by_boxes(&self, from: &Waypoint, to: usize, points: &[Pt]) -> bool
-        requires within { to < length self.now.lengths.items }
+        requires within { to < length self.now.lengths }
         requires some { 0 < length points.now }
         ensures yes { IsTrue result → IsNotLesser self.now from.now to points.now }
         ensures no { (n : ℕ) → IsGapBound from.now.shape points.now n → IsDone self.now (from.now.length + n) to → IsTrue result }
@@ -102,7 +115,7 @@ impl ShortestLengths {
     /// Whether the boxes tell that there is no need to go from a waypoint to the entry of a cell, which has these points.
     pub(crate) fn is_entry_done(&self, from: &Waypoint, d: u32, entry: &[Pt]) -> bool
         requires within { d < self.now.count }
-        requires many { length self.now.lengths.items ≡ self.now.count + self.now.count + 1 }
+        requires many { length self.now.lengths ≡ self.now.count + self.now.count + 1 }
         requires some { 0 < length entry.now }
         ensures yes { IsTrue result → IsNotLesser self.now from.now (self.now.count + d) entry.now }
         ensures no { (n : ℕ) → IsGapBound from.now.shape entry.now n → IsDone self.now (from.now.length + n) (self.now.count + d) → IsTrue result }
@@ -113,7 +126,7 @@ impl ShortestLengths {
     // The length of a waypoint with this number and hull by way of another, where that is within the limit and less than
     // the one that it has.
     fn lesser(&self, from: &Waypoint, to: usize, shape: &Poly) -> Option<u64>
-        requires { to < length self.now.lengths.items }
+        requires { to < length self.now.lengths }
         ensures some { IfSome result (IsLesser self.now from.now to shape.now) }
         ensures none { IfNone result (IsNotLesser self.now from.now to shape.now) }
     {
@@ -125,17 +138,23 @@ impl ShortestLengths {
     }
 
     /// Goes from a waypoint to the hull of a cell, where a route ends.
-    pub(crate) fn reach_end(&mut self, from: &Waypoint, c: u32, shape: &Poly)
+    pub(crate) fn reach_end(
+        &mut self,
+        from: &Waypoint,
+        c: u32,
+        shape: &Poly,
+    ) -> Result<(), AllocError>
         requires within { c < self.old.count }
-        requires many { length self.old.lengths.items ≡ self.old.count + self.old.count + 1 }
-        ensures { (i : ℕ) → Relaxes (StepsTo i c from.now.shape shape.now) from.now.length self.old self.new }
+        requires many { length self.old.lengths ≡ self.old.count + self.old.count + 1 }
+        ensures { OnOk result ((i : ℕ) → Relaxes (StepsTo i c from.now.shape shape.now) from.now.length self.old self.new) }
     {
         if self.is_done_by_boxes(from, c as usize, shape.corners()) {
-            return;
+            return Ok(());
         }
         if let Some(n) = self.lesser(from, c as usize, shape) {
-            self.lengths[c as usize] = Some(n);
+            self.lengths.set(c as usize, n)?;
         }
+        Ok(())
     }
 
     /// Goes from a waypoint to the entry of a cell.
@@ -146,35 +165,22 @@ impl ShortestLengths {
         shape: &Poly,
     ) -> Result<(), AllocError>
         requires within { d < self.old.count }
-        requires many { length self.old.lengths.items ≡ self.old.count + self.old.count + 1 }
+        requires many { length self.old.lengths ≡ self.old.count + self.old.count + 1 }
         ensures { OnOk result ((i : ℕ) → Relaxes (StepsTo i (self.old.count + d) from.now.shape shape.now) from.now.length self.old self.new) }
     {
         let number = self.count as usize + d as usize;
         if let Some(n) = self.lesser(from, number, shape) {
-            self.lengths[number] = Some(n);
+            self.lengths.set(number, n)?;
             self.frontier.push(n, d)?;
         }
         Ok(())
     }
 
-    /// The lengths of the hulls of the cells.
-    pub(crate) fn into_labels(mut self) -> Vec<Option<u64>>
-        ensures { result.items ≡ take self.count self.lengths.items }
+    /// The lengths of the hulls of the cells, as labels.
+    pub(crate) fn label_table(&self, alloc: Global) -> Result<LabelTable, AllocError>
+        requires { length self.now.lengths ≡ self.now.count + self.now.count + 1 }
+        ensures { IfOk result (λ table. table ≡ take self.now.count self.now.lengths) }
     {
-        self.lengths.truncate(self.count as usize);
-        self.lengths
+        LabelTable::of(alloc, &self.lengths, self.count)
     }
-}
-
-// The lengths of the waypoints of `count` cells to begin with: only the start, which is the last, has one.
-fn first_lengths(alloc: Global, count: u32) -> Result<Vec<Option<u64>>, AllocError>
-    ensures { IfOk result (λ lengths. AreFirst count lengths.items) }
-{
-    let before = 2 * count as usize;
-    let mut lengths = Vec::with_capacity(alloc, before + 1)?;
-    for _ in 0..before {
-        lengths.push(None)?;
-    }
-    lengths.push(Some(0))?;
-    Ok(lengths)
 }

@@ -1,11 +1,8 @@
-ghost use Rattle.std.specs.Prelude.{◌≡◌, ◌<◌, ◌≤◌, length};
-ghost use Rattle.std.specs.List.{AllByRecursion};
-ghost use Rattle.spot_terms.specs.Hull.{IsHullOf};
 ghost use Rattle.spot_terms.specs.Whole.{SizeAtMost};
 ghost use Rattle.convex_poly.specs.Polygons.{IsPosition};
 
 use super::*;
-use convex_poly::{Poly, hull};
+use convex_poly::{Poly, hull_of_few};
 use spot_terms::Pt;
 use std::test::Fail;
 
@@ -18,158 +15,153 @@ fn at(x: i64, y: i64) -> Pt
     Pt { x, y }
 }
 
-/// The hull of at most 20 points.
-fn hull_of(points: &[Pt]) -> Poly
-    requires some { 0 < length points.now }
-    requires few { length points.now ≤ 20 }
-    requires positions { AllByRecursion IsPosition points.now }
-    ensures { IsHullOf points.now result }
-{
-    hull(points)
-}
-
 #[test]
 fn gaps(rt: HostRuntime) -> Result<(), Fail> {
     for (name, a, b, expected) in [
         (
             "a point and itself",
-            hull_of(&[at(5, 5)]),
-            hull_of(&[at(5, 5)]),
+            hull_of_few(&[at(5, 5)]),
+            hull_of_few(&[at(5, 5)]),
             0,
         ),
-        ("two points", hull_of(&[at(0, 0)]), hull_of(&[at(3, 4)]), 5),
+        (
+            "two points",
+            hull_of_few(&[at(0, 0)]),
+            hull_of_few(&[at(3, 4)]),
+            5,
+        ),
         (
             "two points, root not whole",
-            hull_of(&[at(0, 0)]),
-            hull_of(&[at(2, 3)]),
+            hull_of_few(&[at(0, 0)]),
+            hull_of_few(&[at(2, 3)]),
             3,
         ),
         (
             "a point on a segment",
-            hull_of(&[at(0, 0), at(9, 6)]),
-            hull_of(&[at(3, 2)]),
+            hull_of_few(&[at(0, 0), at(9, 6)]),
+            hull_of_few(&[at(3, 2)]),
             0,
         ),
         (
             "a point beside a segment",
-            hull_of(&[at(0, 0), at(10, 0)]),
-            hull_of(&[at(4, 7)]),
+            hull_of_few(&[at(0, 0), at(10, 0)]),
+            hull_of_few(&[at(4, 7)]),
             7,
         ),
         (
             "a point past the end",
-            hull_of(&[at(0, 0), at(10, 0)]),
-            hull_of(&[at(13, 4)]),
+            hull_of_few(&[at(0, 0), at(10, 0)]),
+            hull_of_few(&[at(13, 4)]),
             5,
         ),
         (
             "a slanted side, root not whole",
-            hull_of(&[at(0, 0), at(10, 7)]),
-            hull_of(&[at(2, 9)]),
+            hull_of_few(&[at(0, 0), at(10, 7)]),
+            hull_of_few(&[at(2, 9)]),
             6,
         ),
         (
             "crossing segments",
-            hull_of(&[at(0, 0), at(4, 4)]),
-            hull_of(&[at(0, 4), at(4, 0)]),
+            hull_of_few(&[at(0, 0), at(4, 4)]),
+            hull_of_few(&[at(0, 4), at(4, 0)]),
             0,
         ),
         (
             "crossing squares",
-            hull_of(&[at(0, 0), at(4, 0), at(4, 4), at(0, 4)]),
-            hull_of(&[at(2, 2), at(9, 2), at(9, 9), at(2, 9)]),
+            hull_of_few(&[at(0, 0), at(4, 0), at(4, 4), at(0, 4)]),
+            hull_of_few(&[at(2, 2), at(9, 2), at(9, 9), at(2, 9)]),
             0,
         ),
         (
             "touching at a corner",
-            hull_of(&[at(0, 0), at(4, 0), at(4, 4), at(0, 4)]),
-            hull_of(&[at(4, 4), at(9, 4), at(9, 9)]),
+            hull_of_few(&[at(0, 0), at(4, 0), at(4, 4), at(0, 4)]),
+            hull_of_few(&[at(4, 4), at(9, 4), at(9, 9)]),
             0,
         ),
         (
             "touching along a side",
-            hull_of(&[at(0, 0), at(4, 0), at(4, 4), at(0, 4)]),
-            hull_of(&[at(4, 1), at(9, 1), at(9, 3), at(4, 3)]),
+            hull_of_few(&[at(0, 0), at(4, 0), at(4, 4), at(0, 4)]),
+            hull_of_few(&[at(4, 1), at(9, 1), at(9, 3), at(4, 3)]),
             0,
         ),
         (
             "one inside the other",
-            hull_of(&[at(0, 0), at(10, 0), at(0, 10)]),
-            hull_of(&[at(1, 1), at(2, 2)]),
+            hull_of_few(&[at(0, 0), at(10, 0), at(0, 10)]),
+            hull_of_few(&[at(1, 1), at(2, 2)]),
             0,
         ),
         (
             "parallel sides",
-            hull_of(&[at(0, 0), at(4, 0), at(4, 4), at(0, 4)]),
-            hull_of(&[at(11, -9), at(20, -9), at(20, 9), at(11, 9)]),
+            hull_of_few(&[at(0, 0), at(4, 0), at(4, 4), at(0, 4)]),
+            hull_of_few(&[at(11, -9), at(20, -9), at(20, 9), at(11, 9)]),
             7,
         ),
         (
             "corner to side",
-            hull_of(&[at(0, 0), at(10, 0), at(0, 10)]),
-            hull_of(&[at(9, 8), at(30, 8), at(30, 40)]),
+            hull_of_few(&[at(0, 0), at(10, 0), at(0, 10)]),
+            hull_of_few(&[at(9, 8), at(30, 8), at(30, 40)]),
             4,
         ),
         (
             "corner to side of a square turned",
-            hull_of(&[at(0, 0), at(100, 0), at(100, 100), at(0, 100)]),
-            hull_of(&[at(200, 50), at(250, 0), at(300, 50), at(250, 100)]),
+            hull_of_few(&[at(0, 0), at(100, 0), at(100, 100), at(0, 100)]),
+            hull_of_few(&[at(200, 50), at(250, 0), at(300, 50), at(250, 100)]),
             100,
         ),
         (
             "side to corner, not whole",
-            hull_of(&[at(0, 0), at(1_000, 333), at(700, 900)]),
-            hull_of(&[at(1_200, 1_200), at(900, 1_100)]),
+            hull_of_few(&[at(0, 0), at(1_000, 333), at(700, 900)]),
+            hull_of_few(&[at(1_200, 1_200), at(900, 1_100)]),
             282,
         ),
         (
             "exactly 10^9",
-            hull_of(&[at(0, 0)]),
-            hull_of(&[at(1_000_000_000, 0)]),
+            hull_of_few(&[at(0, 0)]),
+            hull_of_few(&[at(1_000_000_000, 0)]),
             1_000_000_000,
         ),
         (
             "exactly 10^9 both",
-            hull_of(&[at(0, 0)]),
-            hull_of(&[at(1_000_000_000, -1_000_000_000)]),
+            hull_of_few(&[at(0, 0)]),
+            hull_of_few(&[at(1_000_000_000, -1_000_000_000)]),
             1_414_213_562,
         ),
         (
             "over 10^9",
-            hull_of(&[at(0, 0)]),
-            hull_of(&[at(1_000_000_001, 0)]),
+            hull_of_few(&[at(0, 0)]),
+            hull_of_few(&[at(1_000_000_001, 0)]),
             0,
         ),
         (
             "over 10^9 in y",
-            hull_of(&[at(0, 0)]),
-            hull_of(&[at(3, -1_000_000_001)]),
+            hull_of_few(&[at(0, 0)]),
+            hull_of_few(&[at(3, -1_000_000_001)]),
             0,
         ),
         (
             "one corner over",
-            hull_of(&[at(0, 0)]),
-            hull_of(&[at(5, 0), at(1_000_000_001, 0)]),
+            hull_of_few(&[at(0, 0)]),
+            hull_of_few(&[at(5, 0), at(1_000_000_001, 0)]),
             0,
         ),
         (
             "wide",
-            hull_of(&[
+            hull_of_few(&[
                 at(-500_000_000, -500_000_000),
                 at(-499_999_999, 500_000_000),
             ]),
-            hull_of(&[at(500_000_000, -500_000_000), at(499_999_999, 500_000_000)]),
+            hull_of_few(&[at(500_000_000, -500_000_000), at(499_999_999, 500_000_000)]),
             999_999_998,
         ),
         (
             "wide slanted",
-            hull_of(&[at(0, 0), at(1, 0)]),
-            hull_of(&[at(1_000_000_000, -1), at(-999_999_999, 1_000_000_000)]),
+            hull_of_few(&[at(0, 0), at(1, 0)]),
+            hull_of_few(&[at(1_000_000_000, -1), at(-999_999_999, 1_000_000_000)]),
             447_213_594,
         ),
         (
             "twenty corners each",
-            hull_of(&[
+            hull_of_few(&[
                 at(-100, 100),
                 at(-90, 81),
                 at(-80, 64),
@@ -191,7 +183,7 @@ fn gaps(rt: HostRuntime) -> Result<(), Fail> {
                 at(80, 64),
                 at(90, 81),
             ]),
-            hull_of(&[
+            hull_of_few(&[
                 at(-83, -400),
                 at(-74, -381),
                 at(-65, -364),
@@ -217,8 +209,8 @@ fn gaps(rt: HostRuntime) -> Result<(), Fail> {
         ),
         (
             "far out",
-            hull_of(&[at(40_000_000_000_000, 0)]),
-            hull_of(&[at(39_999_999_999_994, 8), at(39_999_999_999_400, 8)]),
+            hull_of_few(&[at(40_000_000_000_000, 0)]),
+            hull_of_few(&[at(39_999_999_999_994, 8), at(39_999_999_999_400, 8)]),
             10,
         ),
     ] {

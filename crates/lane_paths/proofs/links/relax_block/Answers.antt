@@ -17,7 +17,7 @@ pub returns-in_ok-close-clause-closed : goal.returns-in_ok-close-clause-closed
 returns-in_ok-close-clause-closed c =
     let (p, i, w) = c.requires.waypoint in
     let kept = closed_on c.args.net.now (LinksInCells c.args.net.now p i c.args.block.now) c.args.from.now.length c.args.search.now c.relax_cells.new.search c.args.closed.now.greatest.items (c.in_ok-relax_cells.ensures.relaxes p i w) c.requires.closed in
-    closed_more c.args.net.now c.relax_cells.new.search.lengths.items c.args.closed.now.greatest.items c.close.new.self.greatest.items c.args.from.now.cell c.in-Some.most (get_or c.args.block.now 0 0) c.args.block.now kept c.requires.block
+    closed_more c.args.net.now c.relax_cells.new.search.lengths c.args.closed.now.greatest.items c.close.new.self.greatest.items c.args.from.now.cell c.in-Some.most (get_or c.args.block.now 0 0) c.args.block.now kept c.requires.block
     (block_first c.args.net.now c.args.from.now.cell c.args.block.now c.requires.block) c.in-Some.ensures c.in_ok-close.ensures
 
 pub returns-in_default-clause-closed : goal.returns-in_default-clause-closed

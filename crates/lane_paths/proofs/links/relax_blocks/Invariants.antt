@@ -6,7 +6,7 @@ use Rattle.lane_paths.specs.Waypoints.{IsWaypoint, LinksInCells}
 use Rattle.lane_paths.proofs.links.relax_blocks.Given as goal
 
 abbrev pub invariant-loop-first : goal.invariant-loop-first
-invariant-loop-first l = HasPlaces l.net l.search × AreClosed l.net l.search.lengths.items l.closed.greatest.items × (l.first ≤ length l.class)
+invariant-loop-first l = HasPlaces l.net l.search × AreClosed l.net l.search.lengths l.closed.greatest.items × (l.first ≤ length l.class)
     × ((p : Pt) (i : ℕ) → IsWaypoint l.net p i l.from.cell l.from → Relaxes (LinksInCells l.net p i (take l.first l.class)) l.from.length l.fn.search l.search)
 
 abbrev pub decreases-loop-first : goal.decreases-loop-first

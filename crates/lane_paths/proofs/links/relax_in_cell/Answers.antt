@@ -13,7 +13,7 @@ pub reach_end-requires-clause-many : goal.reach_end-requires-clause-many
 reach_end-requires-clause-many c = c.requires.places.many
 
 pub relax_ahead-requires-clause-places : goal.relax_ahead-requires-clause-places
-relax_ahead-requires-clause-places c = places_on c.args.net.now _ c.args.from.now.length c.args.search.now c.reach_end.new.self (c.reach_end.ensures 0) c.requires.places
+relax_ahead-requires-clause-places c = places_on c.args.net.now _ c.args.from.now.length c.args.search.now c.reach_end.new.self (c.in_ok-reach_end.ensures 0) c.requires.places
 
 pub relax_ahead-requires-clause-within : goal.relax_ahead-requires-clause-within
 relax_ahead-requires-clause-within c = all_of (λ d. d < length (cells c.args.net.now)) c.ahead.result.now (λ d i. ahead_within c.args.net.now c.args.c d (c.ahead.ensures.each d i))
@@ -22,5 +22,5 @@ pub returns-clause-relaxes : goal.returns-clause-relaxes
 returns-clause-relaxes c = on_ok c.relax_ahead.result _ _ (λ relaxes p i w.
     let at = c.cell.ensures in
     cell_links c.args.net.now p i c.args.c c.args.from.now.length c.ahead.result.now c.args.search.now c.reach_end.new.self c.relax_ahead.new.search c.ahead.ensures.all
-    (stepped_end c.args.net.now p i c.args.c c.args.from.now at.net_cell c.cell.result.now.poly c.args.search.now c.reach_end.new.self w at.cell_is at.cell_of.poly (c.reach_end.ensures i))
+    (stepped_end c.args.net.now p i c.args.c c.args.from.now at.net_cell c.cell.result.now.poly c.args.search.now c.reach_end.new.self w at.cell_is at.cell_of.poly (c.in_ok-reach_end.ensures i))
     (relaxes p i c.args.c w (all_of (IsAhead c.args.net.now (cells c.args.net.now) c.args.c) c.ahead.result.now c.ahead.ensures.each))) c.relax_ahead.ensures.relaxes

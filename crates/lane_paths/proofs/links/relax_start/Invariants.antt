@@ -5,4 +5,4 @@ use Rattle.lane_paths.specs.Waypoints.{LinksFromStart}
 use Rattle.lane_paths.proofs.links.relax_start.Given as goal
 
 abbrev pub invariant-loop-s : goal.invariant-loop-s
-invariant-loop-s l = HasPlaces l.net l.search × AreAllClosed l.net l.search.lengths.items l.closed × Relaxes (LinksFromStart l.net l.start (take l.s-index l.starts)) 0 l.fn.search l.search
+invariant-loop-s l = HasPlaces l.net l.search × AreAllClosed l.net l.search.lengths l.closed × Relaxes (LinksFromStart l.net l.start (take l.s-index l.starts)) 0 l.fn.search l.search

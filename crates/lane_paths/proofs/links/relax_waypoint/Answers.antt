@@ -20,7 +20,7 @@ returns-in_ok-close-clause-closed c =
     let (p, i, w) = c.requires.waypoint in
     let (some, b, low) = class_first net c.args.from.now.cell c.beside-class.result.now c.requires.within c.beside-class.ensures in
     let e = c.first_of-first.ensures in
-    let lengths = c.relax_blocks.new.search.lengths.items in
+    let lengths = c.relax_blocks.new.search.lengths in
     let k = classes_on net (LinksBeside net p i c.args.from.now.cell) c.args.from.now.length c.args.search.now c.relax_blocks.new.search c.args.closed.now (record { blocks = c.relax_blocks.new.closed; classes = c.args.closed.now.classes }) (c.in_ok-relax_blocks.ensures.relaxes p i w) refl c.requires.closed c.in_ok-relax_blocks.ensures.closed in
     classes_more net lengths c.args.from.now.cell c.in-Some.most c.first_of-first.result c.beside-class.result.now _ (record { blocks = c.relax_blocks.new.closed; classes = c.close.new.self }) k (subst (λ (z : ℕ). IsBeside net (cells net) z c.args.from.now.cell) (sym e) b) c.beside-class.ensures
     (c.in-Some.ensures net lengths c.args.from.now.cell c.in_ok-relax_blocks.ensures.closed c.beside-class.ensures) refl c.in_ok-close.ensures

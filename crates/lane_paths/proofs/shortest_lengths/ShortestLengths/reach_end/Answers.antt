@@ -9,11 +9,11 @@ pub returns-then-is_done_by_boxes : goal.returns-then-is_done_by_boxes
 returns-then-is_done_by_boxes c = λ i. step_none i c.args.c c.args.from.now.length c.args.from.now.shape c.args.shape.now c.args.self.now
     (subst (λ (l : List Pt). IsNotLesser c.args.self.now c.args.from.now c.args.c l) c.corners.ensures.items (c.is_done_by_boxes.ensures.yes c.if-is_done_by_boxes.true))
 
-pub returns-in-Some : goal.returns-in-Some
-returns-in-Some c = λ i.
+pub returns-in_ok-set : goal.returns-in_ok-set
+returns-in_ok-set c = λ i.
     let less = c.in-Some.ensures.some in
-    let inside : c.args.c < length c.args.self.now.lengths.items = omega (arith, c.requires.within, c.requires.many) in
-    step_less i c.args.c c.args.from.now.length c.in-Some.n less.gap c.args.from.now.shape c.args.shape.now c.args.self.now _ (end_step c.args.c c.in-Some.n c.args.self.now _ c.requires.within refl refl refl refl) inside less.gap_is less.sum less.low less.above
+    let inside : c.args.c < length c.args.self.now.lengths = omega (arith, c.requires.within, c.requires.many) in
+    step_less i c.args.c c.args.from.now.length c.in-Some.n less.gap c.args.from.now.shape c.args.shape.now c.args.self.now _ (end_step c.args.c c.in-Some.n c.args.self.now _ c.requires.within refl refl c.in_ok-set.ensures refl) inside less.gap_is less.sum less.low less.above
 
 pub returns-in_default : goal.returns-in_default
 returns-in_default c = λ i. step_none i c.args.c c.args.from.now.length c.args.from.now.shape c.args.shape.now c.args.self.now c.in_default.ensures.none
