@@ -1,7 +1,7 @@
 //! The planning problem of a command, and its ego.
 
 ghost use Rattle.std.specs.Prelude.{◌≡◌, ◌==◌, ◌*◌, ◌≤◌, pos, find, IfOk, IfErr};
-ghost use Rattle.spot_terms.specs.Ranges.{IsCommandInRange, IsInRange, IsProblemInRange};
+ghost use Rattle.spot_terms.specs.Ranges.{IsCommandInRange, IsProblemInRange};
 ghost use Rattle.spot_claims.specs.Problems.{chosen};
 ghost use Rattle.area_report.specs.Egos.{HasEgo, IsEgoOf, IsProblemFault};
 
@@ -69,7 +69,6 @@ fn line_of(command: &Command, problem: &Problem) -> EgoLine
 /// The ego of the problem that a command chooses, or the status that refuses it: there is no such problem, it begins after
 /// time 0, or a speed of its start is above the ego's.
 pub fn ego_of(scenario: &Scenario, command: &Command) -> Result<EgoLine, Status>
-    requires range { IsInRange scenario.now }
     requires command { IsCommandInRange command.now }
     ensures ok { IfOk result (λ e. HasEgo scenario.now command.now e) }
     ensures err { IfErr result (λ status. IsProblemFault scenario.now command.now status) }

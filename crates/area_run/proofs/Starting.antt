@@ -6,15 +6,15 @@ use Rattle.spot_terms.specs.BaseSets.{Rect, SetValue}
 use Rattle.spot_terms.specs.Courses.{box_at, cells_of, slots_met}
 use Rattle.spot_terms.specs.Frames.{at}
 use Rattle.spot_terms.specs.Grid.{slot, slot_high, slot_low}
-use Rattle.spot_terms.specs.Hull.{Before, IsHullOf}
+use Rattle.spot_terms.specs.Hull.{IsHullOf}
 use Rattle.spot_terms.specs.RowBoxes.{row_boxes}
 use Rattle.spot_terms.specs.StepLists.{IsFirstList, segment}
 use Rattle.spot_terms.specs.Whole.{Within}
 use Rattle.spot_terms.specs.declared.plain.Pt.{Pt}
-use Rattle.spot_terms.proofs.Hulls.{hull_included}
 use Rattle.spot_terms.proofs.OneHull.{one_hull}
 use Rattle.spot_terms.proofs.Orders.{reflexive, antisymmetric, below_true, at_least_false}
 use Rattle.convex_poly.specs.Runs.{IsSpanOf}
+use Rattle.convex_poly.proofs.Ends.{one_corner, two_corners}
 use Rattle.base_sets.specs.Values.{AreBoxPlaces, IsBox, rect_of_box}
 use Rattle.base_sets.specs.declared.grid.OuterBox.{OuterBox}
 use Rattle.base_sets.proofs.Slots.{count_is}
@@ -31,25 +31,10 @@ use Rattle.spot_terms.proofs.Slots.{slots_rise, some_width}
 
 -- ---- the set of the start
 
--- two points, the first of which comes before the other, are the corners of their hull
-two_corners : (a b : Pt) → Before a b → IsHullOf (a ∷ b ∷ []) (a ∷ b ∷ [])
-two_corners a b h = record {
-  ordered = ((h, tt), ((inl refl, (inr (inl refl), tt)), ((inr (inl refl), (inl refl, tt)), tt)));
-  among = (inl refl, (inr (inl refl), tt));
-  covers = (hull_included (a ∷ b ∷ []) a (inl refl), (hull_included (a ∷ b ∷ []) b (inr (inl refl)), tt));
-}
-
-one_corner : (a b : Pt) → b ≡ a → IsHullOf (a ∷ b ∷ []) (a ∷ [])
-one_corner a b e = record {
-  ordered = (tt, ((inl refl, tt), tt));
-  among = (inl refl, tt);
-  covers = (hull_included (a ∷ []) a (inl refl), (hull_included (a ∷ []) b (inl e), tt));
-}
-
 -- the hull of a place with two speeds is its segment
 pub segment_is : (p lo hi : ℤ) (corners : List Pt) → lo ≤ℤ hi → IsHullOf (at p lo ∷ at p hi ∷ []) corners → corners ≡ segment p lo hi
 segment_is p lo hi corners order h = by_lt_z lo hi
-    (λ less. rw (below_true lo hi less) (one_hull (at p lo ∷ at p hi ∷ []) corners (at p lo ∷ at p hi ∷ []) h (two_corners (at p lo) (at p hi) (inr (refl, less)))))
+    (λ less. rw (below_true lo hi less) (one_hull (at p lo ∷ at p hi ∷ []) corners (at p lo ∷ at p hi ∷ []) h (two_corners (at p lo) (at p hi) (inr (refl, less)) (at p lo) (at p hi) (inl refl) (inr refl) (inl refl) (inr refl))))
     (λ not. rw (at_least_false lo hi not) (one_hull (at p lo ∷ at p hi ∷ []) corners (at p lo ∷ []) h (one_corner (at p lo) (at p hi) (ap (at p) (antisymmetric hi lo not order)))))
 
 -- ---- its row

@@ -7,7 +7,7 @@ pub mod Linking
 pub mod AmongColumns
 pub mod CutSteps
 mod Shared
-mod BoxSums
+pub mod BoxSums
 pub mod RowCounts
 pub mod RowPlaces
 pub mod RowNumbers

@@ -17,17 +17,11 @@ pub fn row_boxes<O: Occupied>(o: &O, step: u32, b: &OuterBox, grid: &Grid) -> u6
     requires grid { IsGrid grid.now }
     ensures { result ≡ row_boxes_in grid.now.w grid.now.g (rect_of_box b.now) (O.count o.now step) (O.range o.now step) }
 {
-    let mut boxes = b.cells(grid);
-    for piece in 0..o.pieces(step) {
-        if let Some((low, high)) = o.span(step, piece) {
-            boxes += rows_shared(low, high, b, grid.g);
-        }
-    }
-    boxes
+    b.cells(grid) + o.rows(step, b, grid.g)
 }
 
-// How many rows of the box meet a range.
-pub(crate) fn rows_shared(low: i64, high: i64, b: &OuterBox, g: i64) -> u64
+/// How many rows of the box, of height `g`, meet the range of y from `low` to `high`.
+pub fn rows_shared(low: i64, high: i64, b: &OuterBox, g: i64) -> u64
     requires order { low ≤ℤ high }
     requires reach { IsBox b.now }
     requires height { Within (pos 100_000) (pos 100_000_000) g }

@@ -12,7 +12,7 @@ mod runs;
 mod sets;
 
 pub use among::common_span;
-pub use boxes::row_boxes;
+pub use boxes::{row_boxes, rows_shared};
 pub use linked::RowSpans;
 pub use occupied::Occupied;
 pub use rows::{Runs, row_ends, row_runs};

@@ -1,10 +1,16 @@
 //! What is occupied at a step: convex pieces.
-ghost use Rattle.std.specs.Prelude.{◌≡◌, ℕ, ℤ, ◌<◌, ◌≤◌, ◌≤ℤ◌};
+ghost use Rattle.std.specs.Prelude.{◌≡◌, ℕ, ℤ, ◌<◌, ◌≤◌, ◌≤ℤ◌, pos, sum_by};
 ghost use Rattle.spot_terms.specs.Frames.{at};
+ghost use Rattle.spot_terms.specs.Lists.{numbers_below};
+ghost use Rattle.spot_terms.specs.RowBoxes.{slots_shared};
 ghost use Rattle.spot_terms.specs.Whole.{SizeAtMost, Within};
 ghost use Rattle.spot_terms.specs.declared.plain.Pt.{Pt};
 ghost use Rattle.convex_poly.specs.Runs.{IsRun};
+ghost use Rattle.base_sets.specs.Values.{IsBox};
 ghost use Rattle.carve.specs.Ranges.{AreBeside, IsRange};
+
+use crate::boxes::rows_shared;
+use base_sets::OuterBox;
 
 /// What is occupied: at each step up to a last one some pieces, each of which holds whole points of the plane.
 pub trait Occupied {
@@ -33,6 +39,24 @@ pub trait Occupied {
         requires step { step ≤ last self.now }
         requires piece { piece < count self.now step }
         ensures { IsRange (range self.now step piece) result };
+
+    /// For each piece the rows of height `g` of the box that meet its range of y, all together. What keeps the ranges of its
+    /// pieces in a list may go over the list once, in place of asking for one after the other.
+    fn rows(&self, step: u32, b: &OuterBox, g: i64) -> u64
+        requires step { step ≤ last self.now }
+        requires reach { IsBox b.now }
+        requires height { Within (pos 100_000) (pos 100_000_000) g }
+        ensures sum { result ≡ sum_by (λ p. slots_shared g (range self.now step p) (b.now.ylo, b.now.yhi)) (numbers_below (count self.now step)) }
+        ensures few { result ≤ 4_294_967_295_000_000_000 }
+    {
+        let mut rows = 0;
+        for piece in 0..self.pieces(step) {
+            if let Some((low, high)) = self.span(step, piece) {
+                rows += rows_shared(low, high, b, g);
+            }
+        }
+        rows
+    }
 
     /// The least and the greatest whole x with (x, `y0`) and (x, `y1`) both in the piece; all between are in it too.
     /// `None` exactly where there is none.

@@ -1,6 +1,5 @@
 //! Tests over one rectangle, against values of a program that was written apart from this one.
-ghost use Rattle.std.specs.Prelude.{◌≡◌, ℕ, ℤ, ◌<◌, ◌≤◌, ◌≤ℤ◌, length};
-ghost use Rattle.std.specs.List.{AllByRecursion};
+ghost use Rattle.std.specs.Prelude.{ℕ, ℤ, ◌≤ℤ◌};
 ghost use Rattle.std.proofs.Common.{arith};
 ghost use Rattle.std.proofs.lemmas.Int.{ints};
 ghost use Rattle.spot_terms.specs.Whole.{SizeAtMost, Within};
@@ -8,7 +7,7 @@ ghost use Rattle.convex_poly.specs.Polygons.{IsPosition};
 
 use super::*;
 use base_sets::{BaseSet, Grid, OuterBox};
-use convex_poly::{Poly, Pt, hull};
+use convex_poly::{Poly, Pt, hull_of_few};
 use std::test::Fail;
 
 /// So many equal rectangles at each step up to `last`.
@@ -207,16 +206,6 @@ fn at(x: i64, y: i64) -> Pt
     Pt { x, y }
 }
 
-/// The hull of at most 18 points.
-fn hull_of(points: &[Pt]) -> Poly
-    requires some { 0 < length points.now }
-    requires few { length points.now ≤ 18 }
-    requires positions { AllByRecursion IsPosition points.now }
-    ensures { length result ≤ 18 }
-{
-    hull(points)
-}
-
 #[test]
 fn a_set_cut_by_runs(rt: HostRuntime) -> Result<(), Fail> {
     let corners = [
@@ -228,8 +217,8 @@ fn a_set_cut_by_runs(rt: HostRuntime) -> Result<(), Fail> {
     let set = BaseSet {
         col: -1,
         row: 0,
-        x: hull_of(&corners),
-        y: hull_of(&corners),
+        x: hull_of_few(&corners),
+        y: hull_of_few(&corners),
     };
     let runs = [
         (-2_000_000, -1_000_001),

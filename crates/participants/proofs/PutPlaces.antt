@@ -10,6 +10,8 @@ use Rattle.spot_terms.specs.OccupiedPieces.{pieces_in}
 use Rattle.spot_terms.specs.Pieces.{Piece, octagon, cut_octagon}
 use Rattle.spot_terms.proofs.ListLemmas.{pairwise_push}
 use Rattle.spot_terms.proofs.Places.{same_index}
+use Rattle.convex_poly.specs.Boxes.{IsBoxOf}
+use Rattle.convex_poly.specs.declared.boxes.BoundingBox.{BoundingBox}
 use Rattle.lane_occupancy.specs.Polygons.{polygon_of}
 use Rattle.lane_occupancy.specs.declared.polygons.LanePoly.{LanePoly}
 use Rattle.participants.specs.Pieces.{octagon_at, participant_pieces, cut_pieces}
@@ -76,24 +78,24 @@ zero_early i = grind (arith, nat_tests)
 
 module _ (participants : List Participant) (who : ℕ) (among : who < length participants) (interval : ℕ) where
   -- the place of a participant that is free
-  pub put_free : (old new : List Place) → (slice_index_or participants who nobody).lane ≡ false → new ≡ old ++ record { who = who; which = 0; first = 0 } ∷ []
+  pub put_free : (old new : List Place) → (slice_index_or participants who nobody).lane ≡ false → new ≡ old ++ record { who = who; which = 0; first = 0; bounds = None } ∷ []
       → Follows participants interval old new (participant_pieces interval (slice_index_or participants who nobody))
   put_free old new free e before are =
-      let place : Place = record { who = who; which = 0; first = 0 } in
-      rw (e, free_pieces (slice_index_or participants who nobody) interval free, place_in interval old (record { who = who; which = 0; first = 0 }) (zero_early interval))
-      (pairwise_push (IsPlaceOf participants interval) (places_in interval old) before (record { who = who; which = 0; first = 0 }) (octagon (octagon_at (slice_index_or participants who nobody) interval)) are
-      (record { among = among; which = λ t. absurd (true_not_false _ t free); is = sym (free_piece (slice_index_or participants who nobody) interval 0 free) }))
+      let place : Place = record { who = who; which = 0; first = 0; bounds = None } in
+      rw (e, free_pieces (slice_index_or participants who nobody) interval free, place_in interval old (record { who = who; which = 0; first = 0; bounds = None }) (zero_early interval))
+      (pairwise_push (IsPlaceOf participants interval) (places_in interval old) before (record { who = who; which = 0; first = 0; bounds = None }) (octagon (octagon_at (slice_index_or participants who nobody) interval)) are
+      (record { among = among; which = λ t. absurd (true_not_false _ t free); is = sym (free_piece (slice_index_or participants who nobody) interval 0 free); outline = refl }))
 
   pub none_before : (old : List Place) → Follows participants interval old old (pieces_before (slice_index_or participants who nobody) interval 0)
   none_before old before are = subst (λ (ps : List Piece). Pairwise (IsPlaceOf participants interval) (places_in interval old) ps) (sym (append-nil before)) are
 
   -- the place of one more lane polygon
-  pub put_polygon : (b : Bool) (old now new : List Place) (w : ℕ) (x : LanePoly) → nat_le x.first interval ≡ b → (slice_index_or participants who nobody).lane ≡ true → w < length (slice_index_or participants who nobody).polys
-      → x ≡ get_or (slice_index_or participants who nobody).polys w x → new ≡ now ++ record { who = who; which = w; first = x.first } ∷ []
+  pub put_polygon : (b : Bool) (old now new : List Place) (w : ℕ) (x : LanePoly) (box : BoundingBox) → IsBoxOf x.poly box → nat_le x.first interval ≡ b → (slice_index_or participants who nobody).lane ≡ true → w < length (slice_index_or participants who nobody).polys
+      → x ≡ get_or (slice_index_or participants who nobody).polys w x → new ≡ now ++ record { who = who; which = w; first = x.first; bounds = Some box } ∷ []
       → Follows participants interval old now (pieces_before (slice_index_or participants who nobody) interval w) → Follows participants interval old new (pieces_before (slice_index_or participants who nobody) interval (w + 1))
-  put_polygon true old now new w x t lane less item e follows before are =
+  put_polygon true old now new w x box h t lane less item e follows before are =
       let ns : List ℤ = octagon_at (slice_index_or participants who nobody) interval in
-      let place : Place = record { who = who; which = w; first = x.first } in
+      let place : Place = record { who = who; which = w; first = x.first; bounds = Some box } in
       let longer : pieces_before (slice_index_or participants who nobody) interval (w + 1) ≡ pieces_before (slice_index_or participants who nobody) interval w ++ cut_octagon (octagon_at (slice_index_or participants who nobody) interval) x.poly ∷ [] =
       ap (λ (xs : List LanePoly). cut_pieces (octagon_at (slice_index_or participants who nobody) interval) interval (map polygon_of xs)) (taken (slice_index_or participants who nobody).polys w x less item)
       ∙ (cut_longer (octagon_at (slice_index_or participants who nobody) interval) interval (take w (slice_index_or participants who nobody).polys) x
@@ -101,16 +103,17 @@ module _ (participants : List Participant) (who : ℕ) (among : who < length par
       subst (λ (ps : List Piece). Pairwise (IsPlaceOf participants interval) (places_in interval new) (before ++ ps)) (sym longer)
       (subst (λ (ps : List Piece). Pairwise (IsPlaceOf participants interval) (places_in interval new) ps) (append_assoc before (pieces_before (slice_index_or participants who nobody) interval w) (cut_octagon (octagon_at (slice_index_or participants who nobody) interval) x.poly ∷ []))
       (subst (λ (ps : List Place). Pairwise (IsPlaceOf participants interval) ps ((before ++ pieces_before (slice_index_or participants who nobody) interval w) ++ cut_octagon (octagon_at (slice_index_or participants who nobody) interval) x.poly ∷ []))
-      (sym (ap (places_in interval) e ∙ place_in interval now (record { who = who; which = w; first = x.first }) t))
+      (sym (ap (places_in interval) e ∙ place_in interval now (record { who = who; which = w; first = x.first; bounds = Some box }) t))
       (pairwise_push (IsPlaceOf participants interval) (places_in interval now) (before ++ pieces_before (slice_index_or participants who nobody) interval w)
-      (record { who = who; which = w; first = x.first }) (cut_octagon (octagon_at (slice_index_or participants who nobody) interval) x.poly) (follows before are)
+      (record { who = who; which = w; first = x.first; bounds = Some box }) (cut_octagon (octagon_at (slice_index_or participants who nobody) interval) x.poly) (follows before are)
       (record {
         among = among;
         which = λ l. less;
         is = ap (λ (y : LanePoly). cut_octagon (octagon_at (slice_index_or participants who nobody) interval) y.poly) (item ∙ same_index (slice_index_or participants who nobody).polys w w x no_polygon less refl)
             ∙ sym (lane_piece (slice_index_or participants who nobody) interval w lane);
+        outline = (x.poly, refl, h);
       }))))
-  put_polygon false old now new w x t lane less item e follows before are =
+  put_polygon false old now new w x box h t lane less item e follows before are =
       let longer : pieces_before (slice_index_or participants who nobody) interval (w + 1) ≡ pieces_before (slice_index_or participants who nobody) interval w =
       ap (λ (xs : List LanePoly). cut_pieces (octagon_at (slice_index_or participants who nobody) interval) interval (map polygon_of xs)) (taken (slice_index_or participants who nobody).polys w x less item)
       ∙ (cut_longer (octagon_at (slice_index_or participants who nobody) interval) interval (take w (slice_index_or participants who nobody).polys) x
@@ -118,7 +121,7 @@ module _ (participants : List Participant) (who : ℕ) (among : who < length par
       ∙ append-nil (pieces_before (slice_index_or participants who nobody) interval w))) in
       subst (λ (ps : List Piece). Pairwise (IsPlaceOf participants interval) (places_in interval new) (before ++ ps)) (sym longer)
       (subst (λ (ps : List Place). Pairwise (IsPlaceOf participants interval) ps (before ++ pieces_before (slice_index_or participants who nobody) interval w))
-      (sym (ap (places_in interval) e ∙ place_out interval now (record { who = who; which = w; first = x.first }) t))
+      (sym (ap (places_in interval) e ∙ place_out interval now (record { who = who; which = w; first = x.first; bounds = Some box }) t))
       (follows before are))
 
   -- the places of all lane polygons are those of the participant

@@ -83,12 +83,12 @@ module _ (places : List Place) (interval : ℕ) where
   late_false first h = grind (arith, nat_tests)
 
   -- one more place, which the interval has
-  one_in : (i : ℕ) (d : Place) → i < length places → (get_or places i d).first ≤ interval → length (places_in interval (take (i + 1) places)) ≡ length (places_in interval (take i places)) + 1
+  pub one_in : (i : ℕ) (d : Place) → i < length places → (get_or places i d).first ≤ interval → length (places_in interval (take (i + 1) places)) ≡ length (places_in interval (take i places)) + 1
   one_in i d h early = length-filter_more (λ (y : Place). nat_le y.first interval) places i d h
       ∙ ap (λ (b : Bool). length (places_in interval (take i places)) + cond b 1 0) (early_true (get_or places i d).first early)
 
   -- one more place, which it doesn't have
-  one_out : (i : ℕ) (d : Place) → i < length places → interval < (get_or places i d).first → length (places_in interval (take (i + 1) places)) ≡ length (places_in interval (take i places))
+  pub one_out : (i : ℕ) (d : Place) → i < length places → interval < (get_or places i d).first → length (places_in interval (take (i + 1) places)) ≡ length (places_in interval (take i places))
   one_out i d h late = length-filter_more (λ (y : Place). nat_le y.first interval) places i d h
       ∙ (ap (λ (b : Bool). length (places_in interval (take i places)) + cond b 1 0) (late_false (get_or places i d).first late)
       ∙ (let z : length (places_in interval (take i places)) + 0 ≡ length (places_in interval (take i places)) = omega arith in z))

@@ -1,5 +1,5 @@
 -- The occupied pieces of each step of a prediction.
-use Rattle.std.specs.Prelude.{◌≡◌, ℕ, ◌-◌, ◌≤◌, List, [], ◌++◌, map, flat_map, filter, nat_le, slice_index_or, Option, Some, None, if◌then◌else◌, ℤ}
+use Rattle.std.specs.Prelude.{◌≡◌, ℕ, ◌-◌, ◌≤◌, List, [], ◌++◌, map, flat_map, filter, nat_le, slice_get, slice_index_or, Option, Some, None, if◌then◌else◌, ℤ}
 use Rattle.std.specs.Borrow.{Bor}
 use Rattle.spot_terms.specs.LanePolygons.{LanePolygon}
 use Rattle.spot_terms.specs.OccupiedPieces.{Occupant, AreOccupants, pieces_in, predicted_pieces}
@@ -7,6 +7,8 @@ use Rattle.spot_terms.specs.Pieces.{Piece, octagon, cut_octagon, InPiece}
 use Rattle.spot_terms.specs.Whole.{Within}
 use Rattle.spot_terms.specs.declared.plain.Pt.{Pt}
 use Rattle.spot_terms.specs.declared.scenario.Scenario.{Scenario}
+use Rattle.convex_poly.specs.Boxes.{IsBoxOf}
+use Rattle.convex_poly.specs.declared.boxes.BoundingBox.{BoundingBox}
 use Rattle.convex_poly.specs.declared.oct_numbers.OctNumbers.{OctNumbers}
 use Rattle.lane_occupancy.specs.Polygons.{polygon_of}
 use Rattle.participants.specs.Predictions.{Occupancies}
@@ -55,6 +57,15 @@ pub record HasPieces (s : Scenario) (steps : ℕ) (o : Occupancies) : Type 0 whe
 abbrev pub IsFound : Option Piece → OctNumbers → Option (Bor (List Pt)) → Type 0
 IsFound piece o None = piece ≡ Some (octagon o.n)
 IsFound piece o (Some p) = piece ≡ Some (cut_octagon o.n p.now)
+
+-- a piece is the octagon, or the octagon cut with a polygon that is in the box and reaches its sides
+abbrev pub IsOutlined : Piece → OctNumbers → Option BoundingBox → Type 0
+IsOutlined piece o None = piece ≡ octagon o.n
+IsOutlined piece o (Some box) = (corners : List Pt) × (piece ≡ cut_octagon o.n corners) × IsBoxOf corners box
+
+-- the piece of this number is there, and it is so
+abbrev pub HasOutline : List Piece → ℕ → OctNumbers → Option BoundingBox → Type 0
+HasOutline pieces p o bounds = (piece : Piece) × (slice_get pieces p ≡ Some piece) × IsOutlined piece o bounds
 
 -- ---- beside places of x
 

@@ -1,11 +1,11 @@
 -- Where the pieces of the participants are kept.
-use Rattle.std.specs.Prelude.{◌≡◌, ℕ, ◌*◌, ◌+◌, ◌<◌, ◌≤◌, List, [], filter, flat_map, length, nat_le, pos, slice_index_or, take, true, false, if◌then◌else◌}
+use Rattle.std.specs.Prelude.{◌≡◌, ℕ, ◌*◌, ◌+◌, ◌<◌, ◌≤◌, List, [], None, filter, flat_map, length, nat_le, pos, slice_index_or, take, true, false, if◌then◌else◌}
 use Rattle.std.specs.List.{AllByRecursion}
 use Rattle.spot_terms.specs.Lists.{Pairwise}
 use Rattle.spot_terms.specs.Pieces.{Piece, octagon, cut_octagon}
 use Rattle.spot_terms.specs.declared.limits.TheConstants.{MOST_LANE_POLYGONS, MOST_OBSTACLES}
 use Rattle.lane_occupancy.specs.declared.polygons.LanePoly.{LanePoly}
-use Rattle.participants.specs.Pieces.{octagon_at, participant_pieces}
+use Rattle.participants.specs.Pieces.{no_octagon, octagon_at, participant_pieces, IsOutlined}
 use Rattle.participants.specs.Predictions.{Occupancies, IsSmall, IsSmallIn}
 use Rattle.participants.specs.declared.participant.Participant.{Participant}
 use Rattle.participants.specs.declared.places.Interval.{Interval}
@@ -20,17 +20,18 @@ abbrev pub no_polygon : LanePoly
 no_polygon = record { cell = 0; first = 0; poly = [] }
 
 abbrev pub no_place : Place
-no_place = record { who = 0; which = 0; first = 0 }
+no_place = record { who = 0; which = 0; first = 0; bounds = None }
 
 -- a piece of a participant: its octagon where it is free, and else cut with its lane polygon of this number
 abbrev pub piece_at : ℕ → ℕ → Participant → Piece
 piece_at interval which p = if p.lane then cut_octagon (octagon_at p interval) (slice_index_or p.polys which no_polygon).poly else octagon (octagon_at p interval)
 
--- the piece is that of the participant and of its lane polygon which the place tells
+-- the piece is that of the participant and of its lane polygon which the place tells, and the place has its box
 pub record IsPlaceOf (participants : List Participant) (interval : ℕ) (place : Place) (piece : Piece) : Type 0 where
   pub among : place.who < length participants
   pub which : (slice_index_or participants place.who nobody).lane ≡ true → place.which < length (slice_index_or participants place.who nobody).polys
   pub is : piece ≡ piece_at interval place.which (slice_index_or participants place.who nobody)
+  pub outline : IsOutlined piece (slice_index_or (slice_index_or participants place.who nobody).octs interval no_octagon) place.bounds
 
 -- the places of an interval: those whose first interval isn't later
 abbrev pub places_in : ℕ → List Place → List Place

@@ -8,17 +8,19 @@ ghost use Rattle.participants.specs.Pieces.{participant_pieces};
 ghost use Rattle.participants.specs.Places.{nobody, places_in, ArePlaces, HaveFewPolygons, IsCounted, IsPlaceOf};
 
 use crate::participant::Participant;
+use convex_poly::BoundingBox;
 use spot_terms::{IdList, MOST_LANE_POLYGONS, MOST_OBSTACLES, MOST_STEPS};
 use std::alloc::{AllocError, Global};
 use std::marker::Model;
 
-/// Which participant a piece is of, which of its lane polygons the octagon is cut with where it follows lanes, and the
-/// first interval that has the piece.
-#[derive(Clone, Copy, Debug, PartialEq, Eq)]
+/// Which participant a piece is of, which of its lane polygons the octagon is cut with where it follows lanes, the first
+/// interval that has the piece, and the box round the lane polygon.
+#[derive(Clone, Copy)]
 pub struct Place {
     pub who: u32,
     pub which: u32,
     pub first: u32,
+    pub bounds: Option<BoundingBox>,
 }
 
 // How many of all places are a block.
@@ -60,6 +62,13 @@ impl Places {
         ensures { result ≡ length (places_in interval self.now.places) }
     {
         self.intervals[interval as usize].count
+    }
+
+    /// All places, in document order.
+    pub fn list(&self) -> &[Place]
+        ensures { result.now ≡ self.now.places }
+    {
+        &self.items
     }
 
     /// The place of this rank among those of an interval.
@@ -116,6 +125,7 @@ fn put_places(
             who,
             which: 0,
             first: 0,
+            bounds: None,
         })?;
         return Ok(());
     }
@@ -124,6 +134,7 @@ fn put_places(
             who,
             which: which as u32,
             first: polygon.first,
+            bounds: Some(polygon.poly.bounding_box()),
         })?;
     }
     Ok(())

@@ -1,9 +1,9 @@
 //! The prediction of a scenario.
 
-ghost use Rattle.std.specs.Prelude.{◌≡◌, ◌-◌, ◌<◌, ◌≤◌, ℕ, length, slice_get, IfOk, IfErr, IsTrue};
+ghost use Rattle.std.specs.Prelude.{◌≡◌, ◌-◌, ◌<◌, ◌≤◌, ℕ, length, slice_get, slice_index_or, IfOk, IfErr, IsTrue};
 ghost use Rattle.std.specs.List.{AllByRecursion};
 ghost use Rattle.spot_terms.specs.Participants.{starting, HasPairs};
-ghost use Rattle.spot_terms.specs.Ranges.{IsInRange, IsFixedInRange};
+ghost use Rattle.spot_terms.specs.Ranges.{IsFixedInRange};
 ghost use Rattle.spot_terms.specs.Reach.{disc_numbers};
 ghost use Rattle.spot_terms.specs.Lists.{Pairwise};
 ghost use Rattle.spot_terms.specs.Pieces.{Hits, range_of};
@@ -11,15 +11,18 @@ ghost use Rattle.spot_terms.specs.Whole.{Within};
 ghost use Rattle.spot_terms.specs.declared.plain.Pt.{Pt as Point};
 ghost use Rattle.carve.proofs.PieceLaws.{hits_upright, hits_in_range};
 ghost use Rattle.participants.specs.Outsets.{AreGathered};
-ghost use Rattle.participants.specs.Pieces.{pieces_at, HasPieces, IsFound};
+ghost use Rattle.participants.specs.Pieces.{no_octagon, pieces_at, HasOutline, HasPieces, IsFound};
+ghost use Rattle.participants.specs.Places.{nobody};
 ghost use Rattle.participants.specs.Predictions.{HoldsMotions, IsSmall, IsSmallIn, IsFixedOctagon, IsPredictFault, IsPrediction, PairsAreOne};
 
 use crate::outset::outset_of;
 use crate::participant::{Participant, participant_of};
-use crate::pieces::{cut_beside, cut_run, cut_span, octagon_beside, octagon_span};
-use crate::places::{Places, places_of};
+use crate::pieces::{cut_run, is_piece_beside, rows_met, span_of};
+use crate::places::{Place, Places, places_of};
+use base_sets::OuterBox;
 use carve::Occupied;
-use convex_poly::{OctNumbers, Poly};
+use convex_poly::{BoundingBox, OctNumbers, Poly};
+use lane_paths::LabelSearch;
 use lanelets::Network;
 use round_out::octagon_at;
 use spot_terms::{Fixed, Horizon, MOST_LANE_POLYGONS, MOST_STEPS, Pt, Scenario};
@@ -105,17 +108,31 @@ impl Prediction {
         self.participants[place.who as usize].parts(interval, place.which)
     }
 
+    // What tells the range of a piece of a step: its octagon, and the box round the lane polygon that it is cut with.
+    fn outline(&self, step: u32, piece: u32) -> (&OctNumbers, Option<BoundingBox>)
+        requires step { step ≤ self.now.steps }
+        requires piece { piece < length (pieces_at self.now step) }
+        ensures small { IsSmall result.0.now }
+        ensures piece { HasOutline (pieces_at self.now step) piece result.0.now result.1 }
+    {
+        let fixed = self.fixed.len() as u32;
+        if piece < fixed {
+            return (&self.fixed[piece as usize].1, None);
+        }
+        let interval = interval_of(step);
+        let place = self.places.get(interval, piece - fixed);
+        let octagon = octagon_in(&self.participants, interval, &place);
+        (octagon, place.bounds)
+    }
+
     // Whether a piece of a step is seen to have no point whose x is from `left` to `right`.
     fn is_beside(&self, step: u32, piece: u32, left: i64, right: i64) -> bool
         requires step { step ≤ self.now.steps }
         requires piece { piece < length (pieces_at self.now step) }
         ensures { IsTrue result → (q : Point) → Hits (pieces_at self.now step) piece q → Within left right q.x → ⊥ }
     {
-        let (octagon, polygon) = self.parts(step, piece);
-        match polygon {
-            Some(polygon) => cut_beside(octagon, polygon, left, right),
-            None => octagon_beside(octagon, left, right),
-        }
+        let (octagon, bounds) = self.outline(step, piece);
+        is_piece_beside(octagon, &bounds, left, right)
     }
 }
 
@@ -135,11 +152,23 @@ impl Occupied for Prediction {
     }
 
     fn span(&self, step: u32, piece: u32) -> Option<(i64, i64)> {
-        let (octagon, polygon) = self.parts(step, piece);
-        match polygon {
-            Some(polygon) => cut_span(octagon, polygon),
-            None => octagon_span(octagon),
+        let (octagon, bounds) = self.outline(step, piece);
+        span_of(octagon, &bounds)
+    }
+
+    fn rows(&self, step: u32, b: &OuterBox, g: i64) -> u64 {
+        let mut rows = 0;
+        for f in &self.fixed {
+            rows += rows_met(span_of(&f.1, &None), b, g);
         }
+        let interval = interval_of(step);
+        for place in self.places.list() {
+            if place.first <= interval {
+                let octagon = octagon_in(&self.participants, interval, place);
+                rows += rows_met(span_of(octagon, &place.bounds), b, g);
+            }
+        }
+        rows
     }
 
     fn run(&self, step: u32, piece: u32, y0: i64, y1: i64) -> Option<(i64, i64)> {
@@ -171,6 +200,15 @@ fn interval_of(step: u32) -> u32
     step.saturating_sub(1)
 }
 
+// The octagon of a place's participant in an interval.
+fn octagon_in<'p>(participants: &'p [Participant], interval: u32, place: &Place) -> &'p OctNumbers
+    requires who { place.now.who < length participants.now }
+    requires interval { interval < length (slice_index_or participants.now place.now.who nobody).octs }
+    ensures { result.now ≡ slice_index_or (slice_index_or participants.now place.now.who nobody).octs interval no_octagon }
+{
+    &participants[place.who as usize].octs.list()[interval as usize]
+}
+
 // The octagon of a static obstacle's disc.
 fn octagon_of(f: &Fixed) -> OctNumbers
     requires { IsFixedInRange f.now }
@@ -191,16 +229,16 @@ struct Gathered {
 // Goes once over the obstacles that start at time 0, as their labels take most of the time. From where there are too many
 // pairs on, no participant is made, and the pairs are only counted.
 fn gather(alloc: Global, s: &Scenario, net: &Network, steps: u32) -> Result<Gathered, AllocError>
-    requires range { IsInRange s.now }
     requires steps { steps ≤ MOST_STEPS }
     ensures { IfOk result (λ g. AreGathered net.now s.now.step steps (starting s.now.movers) g.pairs g.participants.items) }
 {
     let h = Horizon { k: s.step, steps };
     let mut pairs: u64 = 0;
+    let mut search = LabelSearch::new(alloc);
     let mut participants = Vec::new(alloc);
     for m in s.movers.list() {
         if m.time == 0 {
-            let outset = outset_of(alloc, net, m, h)?;
+            let outset = outset_of(alloc, &mut search, net, m, h)?;
             pairs += u64::from(outset.count);
             if pairs <= MOST_LANE_POLYGONS {
                 participants.push(participant_of(alloc, net, m, &outset, h)?)?;
@@ -214,7 +252,6 @@ fn gather(alloc: Global, s: &Scenario, net: &Network, steps: u32) -> Result<Gath
 }
 
 fn fixed_of(alloc: Global, s: &Scenario) -> Result<Vec<(u32, OctNumbers)>, AllocError>
-    requires { IsInRange s.now }
     ensures exact { IfOk result (λ list. Pairwise IsFixedOctagon s.now.fixed list.items) }
     ensures small { IfOk result (λ list. AllByRecursion (λ f. IsSmall f.1) list.items) }
 {
@@ -232,7 +269,6 @@ fn prediction_of(
     participants: Vec<Participant>,
     steps: u32,
 ) -> Result<Prediction, AllocError>
-    requires range { IsInRange s.now }
     requires steps { (1 ≤ steps) × (steps ≤ MOST_STEPS) }
     requires few { length participants.items ≤ length s.now.movers }
     requires small { AllByRecursion (IsSmallIn steps) participants.items }
@@ -261,7 +297,6 @@ pub fn predict(
     net: &Network,
     steps: u32,
 ) -> Result<Prediction, PredictFault>
-    requires range { IsInRange s.now }
     requires network { net.now ≡ s.now.lanelets.entries }
     requires steps { (1 ≤ steps) × (steps ≤ MOST_STEPS) }
     ensures ok { IfOk result (λ p. IsPrediction s.now steps p) }

@@ -2,7 +2,7 @@
 
 ghost use Rattle.std.specs.Prelude.{◌≡◌, ◌+◌, ◌<◌, ◌≤◌, ◌++◌, ℕ, length, map, IfOk};
 ghost use Rattle.spot_terms.specs.OccupiedPieces.{discs_of, fixed_disc};
-ghost use Rattle.spot_terms.specs.Ranges.{AreStatesInRange, IsFixedInRange, IsInRange, IsMoverInRange};
+ghost use Rattle.spot_terms.specs.Ranges.{AreStatesInRange, IsFixedInRange, IsMoverInRange};
 ghost use Rattle.replay_sets.specs.Discs.{AreStanding, Follows};
 
 use crate::recorded::Discs;
@@ -24,7 +24,6 @@ fn disc_of(f: &Fixed, radius: u64) -> Disc
 
 // The discs of the static obstacles.
 fn fixed_discs(alloc: Global, s: &Scenario, radius: u64) -> Result<Discs, AllocError>
-    requires range { IsInRange s.now }
     requires radius { radius ≤ 150_000_000 }
     ensures { IfOk result (λ discs. discs ≡ map (fixed_disc radius) s.now.fixed) }
 {
@@ -42,7 +41,6 @@ pub(crate) fn standing(
     radius: u64,
     steps: u32,
 ) -> Result<Vec<Discs>, AllocError>
-    requires range { IsInRange s.now }
     requires radius { radius ≤ 150_000_000 }
     requires steps { steps ≤ MOST_STEPS }
     ensures { IfOk result (λ all. AreStanding s.now radius (steps + 1) all.items) }

@@ -1,9 +1,7 @@
 //! Recorded traffic of a scenario.
 
 ghost use Rattle.std.specs.Prelude.{◌≡◌, ℕ, ◌+◌, ◌-◌, ◌≤◌, ◌<◌, ◌++◌, ◌∷◌, [], length, slice_get, IfOk, Some};
-ghost use Rattle.std.specs.List.{AllByRecursion};
 ghost use Rattle.spot_terms.specs.OccupiedPieces.{discs};
-ghost use Rattle.spot_terms.specs.Ranges.{AreStatesInRange, IsFew, IsInRange};
 ghost use Rattle.spot_terms.specs.Pieces.{Hits, range_of, disc};
 ghost use Rattle.carve.proofs.PieceLaws.{hits_upright, hits_in_range};
 ghost use Rattle.replay_sets.specs.Discs.{discs_at, pieces_at, IsSmallDisc};
@@ -81,9 +79,6 @@ impl Recorded {
         ego_radius: u64,
         steps: u32,
     ) -> Result<Recorded, AllocError>
-        requires range { IsInRange s.now }
-        requires few { IsFew s.now }
-        requires states { AllByRecursion AreStatesInRange s.now.movers }
         requires radius { ego_radius ≤ 150_000_000 }
         requires steps { steps ≤ MOST_STEPS }
         ensures last { IfOk result (λ r. length r ≡ steps + 1) }

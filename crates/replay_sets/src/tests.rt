@@ -1,7 +1,3 @@
-ghost use Rattle.std.specs.Prelude.{◌≡◌, IfOk};
-ghost use Rattle.std.specs.List.{AllByRecursion};
-ghost use Rattle.spot_terms.specs.Ranges.{AreStatesInRange, IsFew, IsInRange};
-
 use super::*;
 use carve::Occupied;
 use indexmap::IndexMap;
@@ -10,9 +6,7 @@ use std::alloc::{AllocError, Global};
 use std::test::Fail;
 
 // A parked disc, and a car that was recorded at its start, twice at step 2, and once behind the last step.
-fn recorded_car(alloc: Global) -> Result<Scenario, AllocError>
-    ensures { IfOk result (λ s. IsInRange s × IsFew s × AllByRecursion AreStatesInRange s.movers) }
-{
+fn recorded_car(alloc: Global) -> Result<Scenario, AllocError> {
     let states = vec![in alloc; (0, 0, 0), (2, 5_000_000, 0), (9, 0, 0), (2, 6_000_000, 1)]?;
     let car = Mover {
         id: 1,

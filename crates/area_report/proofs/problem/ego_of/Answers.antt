@@ -6,7 +6,7 @@ use Rattle.area_report.proofs.problem.ego_of.Goals as goal
 pub line_of-ego-requires-clause-problem : goal.line_of-ego-requires-clause-problem
 line_of-ego-requires-clause-problem c =
     let is : chosen c.args.command.now.problem c.args.scenario.now.problems ≡ Some c.in-Some.problem = cc (c.chosen_of.ensures, c.list.ensures, c.in-Some.is) in
-    chosen_in_range c.args.command.now.problem c.args.scenario.now.problems c.in-Some.problem is c.requires.range.problems
+    chosen_in_range c.args.command.now.problem c.args.scenario.now.problems c.in-Some.problem is c.args.scenario.now.in_range.each_problem
 
 pub returns-then-fits-clause-ok : goal.returns-then-fits-clause-ok
 returns-then-fits-clause-ok c =

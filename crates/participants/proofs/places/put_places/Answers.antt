@@ -24,7 +24,7 @@ loop-which-preserved c =
     let less : c.loop-which.which < length (slice_index_or c.args.participants.now c.args.who nobody).polys = subst (λ (xs : List LanePoly). c.loop-which.which < length xs) polys c.loop-which-test.true in
     let item : c.polygon-item.result ≡ get_or (slice_index_or c.args.participants.now c.args.who nobody).polys c.loop-which.which c.polygon-item.result = subst (λ (xs : List LanePoly). c.polygon-item.result ≡ get_or xs c.loop-which.which c.polygon-item.result) polys c.polygon-item.is in
     record {
-      follows = λ interval. put_polygon c.args.participants.now c.args.who c.requires.who interval (nat_le c.polygon-item.result.first interval) c.args.places.now.items c.loop-which.places.items c.push-in-loop-which.new.self.items c.loop-which.which c.polygon-item.result
+      follows = λ interval. put_polygon c.args.participants.now c.args.who c.requires.who interval (nat_le c.polygon-item.result.first interval) c.args.places.now.items c.loop-which.places.items c.push-in-loop-which.new.self.items c.loop-which.which c.polygon-item.result c.bounding_box.result c.bounding_box.ensures
           refl (subst (λ (x : Participant). x.lane ≡ true) same lane) less item c.in_ok-push-2.ensures.items (c.loop-which.invariant.follows interval);
       few = rw (c.in_ok-push-2.ensures.items, length-append) (let f = c.loop-which.invariant.few in omega (arith, f));
     }

@@ -8,7 +8,7 @@ use Rattle.participants.proofs.prediction.prediction_of.Goals as goal
 pub invariant_of-result : goal.invariant_of-result
 invariant_of-result c =
     let long = pairwise_length IsFixedOctagon c.args.s.now.fixed c.in_ok-fixed.fixed.items c.in_ok-fixed.ensures.exact in
-    let few = c.requires.range.few in
+    let few = c.args.s.now.in_range.few in
     let less = c.requires.few in
     record {
       participants = c.requires.small;
