@@ -17,3 +17,4 @@ pub mod LengthLists
 pub mod ReachedLists
 pub mod LinkLaws
 pub mod ClosedLaws
+pub mod InsertedLanes

@@ -1,4 +1,4 @@
-ghost use Rattle.std.specs.Prelude.{◌≤◌, length, IfOk};
+ghost use Rattle.std.specs.Prelude.{◌<◌, ◌≤◌, length, IfOk};
 ghost use Rattle.spot_terms.specs.Ranges.{AreBuildable, IsLaneInRange, IsPairInRange, lane_size};
 
 use super::*;
@@ -41,6 +41,42 @@ fn lane(
         predecessors: IdList::from_vec(Vec::new(alloc)),
         sides: IdList::from_vec(sides.to_vec(alloc)?),
     })
+}
+
+/// A lanelet of one cell, 1 m long and 4 m wide, that begins at the place in m.
+fn one_metre(alloc: Global, x: u16, successors: &[u32]) -> Result<RawLane, AllocError>
+    requires place { x < 20_000 }
+    requires few_successors { length successors.now ≤ 10 }
+    ensures { IfOk result (λ l. IsLaneInRange l × (lane_size l ≤ 40)) }
+{
+    let (from, to) = (
+        i64::from(x) * 1_000_000,
+        i64::from(x) * 1_000_000 + 1_000_000,
+    );
+    let left = [(from, 4_000_000), (to, 4_000_000)];
+    let right = [(from, 0), (to, 0)];
+    Ok(RawLane {
+        left: PtList::from_vec(left.to_vec(alloc)?),
+        right: PtList::from_vec(right.to_vec(alloc)?),
+        successors: IdList::from_vec(successors.to_vec(alloc)?),
+        predecessors: IdList::from_vec(Vec::new(alloc)),
+        sides: IdList::from_vec(Vec::new(alloc)),
+    })
+}
+
+/// A road of one lane, 20 km long, in lanelets of 1 m, which stand in another order than on the road. The ids go by the
+/// places on the road.
+fn scattered(alloc: Global) -> Result<IndexMap<u32, RawLane>, AllocError>
+    ensures { IfOk result (λ lanes. AreBuildable lanes.entries) }
+{
+    let mut lanes = IndexMap::new(alloc);
+    for index in 0..20_000u32 {
+        let x = index * 9_999 % 20_000;
+        let next = [x + 2];
+        let successors: &[u32] = if x < 19_999 { &next } else { &[] };
+        lanes.insert(x + 1, one_metre(alloc, x as u16, successors)?)?;
+    }
+    Ok(lanes)
 }
 
 /// One lanelet, with the id 1.
@@ -293,5 +329,17 @@ fn short_limit(rt: HostRuntime) -> Result<(), Fail> {
     let found = labels_of_two(rt.alloc(), &first, &[2], &[], &second, (74, 222), 2_000_000)?;
     let expected = [Some(0), Some(383_613), Some(1_398_020), None, None, None];
     assert_eq!(rt; found.as_slice(), expected.as_slice());
+    Ok(())
+}
+
+/// A road of 20,000 lanelets: the labels of its second and of its last cell, which are the 10,000th and the 10,002nd.
+#[test]
+fn scattered_road(rt: HostRuntime) -> Result<(), Fail> {
+    let alloc = rt.alloc();
+    let lanes = scattered(alloc)?;
+    let found = labels_from(alloc, &lanes, (50, 200), 20_000_000_000)?;
+    assert_eq!(rt; found.len(), 20_000);
+    assert_eq!(rt; found.get(9_999).copied(), Some(Some(500_000)));
+    assert_eq!(rt; found.get(10_001).copied(), Some(Some(19_998_500_000)));
     Ok(())
 }
