@@ -1,7 +1,7 @@
 -- What is read of obstacles and problems.
-use Rattle.spot_terms.specs.Ranges.{IsLaneInRange, IsPairInRange}
+use Rattle.spot_terms.specs.Ranges.{IsPairInRange}
 use Rattle.std.proofs.Common.{◌≡◌, ◌∙◌, ℕ, ◌+◌, ◌<◌, ◌≤◌, ℤ, pos, List, [], ◌∷◌, length, get_or, drop, map, Some, Bool, true, false, cond, refl, sym, ap, subst, arith, codes, unwrap_or, neg_ℤ, nat_abs}
-use Rattle.std.specs.List.{find, AllByRecursion}
+use Rattle.std.specs.List.{find}
 use Rattle.std.proofs.lemmas.Int.{ints}
 use Rattle.std.proofs.lemmas.List.{drop_more, drop_all}
 use Rattle.std.specs.Str.{bytes_eq}
@@ -14,14 +14,11 @@ use Rattle.spot_terms.specs.Lists.{Pairwise}
 use Rattle.spot_claims.specs.Radii.{Holds, HoldsPt, HasRadii}
 use Rattle.spot_claims.specs.Tree.{Element, first_named}
 use Rattle.spot_claims.specs.Paths.{id_at, first_child}
-use Rattle.spot_claims.specs.Scenario.{HoldsExact, HoldsPosition, IsProblem, IsMover, IsRecorded, recorded_of, type_text, below, IsPair, bound_points}
+use Rattle.spot_claims.specs.Scenario.{HoldsExact, HoldsPosition, IsProblem, IsMover, IsRecorded, recorded_of, type_text, below, IsPair}
 use Rattle.spot_terms.specs.Whole.{Within}
 use Rattle.spot_terms.specs.declared.plain.Pt.{Pt}
-use Rattle.spot_terms.specs.declared.scenario.RawLane.{RawLane}
-use Rattle.scenario.specs.Has.{HasLane}
 use Rattle.scenario.specs.Kinds.{kind_in, key_of, view_of}
 use Rattle.scenario.specs.declared.items.NamedKind.{NamedKind}
-use Rattle.spot_terms.proofs.ListLemmas.{pairwise_length}
 
 pub problem_is : (tree : List Element) (e : ℕ) (p : Problem) (start : ℕ) (x y v a : ℤ) → p.place ≡ e → p.x ≡ x → p.y ≡ y → p.speed ≡ v → p.angle ≡ a → id_at tree e ≡ Some p.id → first_named tree (codes "initialState") e ≡ Some start
     → HoldsPosition tree start x y → HoldsExact tree start (codes "velocity") 3 v → HoldsExact tree start (codes "orientation") 6 a → HoldsExact tree start (codes "time") 0 (pos p.time) → IsProblem tree e p
@@ -96,12 +93,3 @@ pub pair_in : (p : Pt) (q : ℤ × ℤ) → q.0 ≡ p.x → q.1 ≡ p.y → nat_
 pair_in p q a b h k =
     let P : ℤ → Type 0 = λ z. nat_abs z ≤ 10_000_000_000_000 in
     record { x = subst P (sym a) h; y = subst P (sym b) k }
-
-pub lane_in : (tree : List Element) (e : ℕ) (l : RawLane) → HasLane tree e → Pairwise (IsPair tree) (bound_points tree (codes "leftBound") e) l.left → Pairwise (IsPair tree) (bound_points tree (codes "rightBound") e) l.right
-    → AllByRecursion IsPairInRange l.left → AllByRecursion IsPairInRange l.right → IsLaneInRange l
-lane_in tree e l has left right a b =
-    let n = pairwise_length (IsPair tree) (bound_points tree (codes "leftBound") e) l.left left in
-    let m = pairwise_length (IsPair tree) (bound_points tree (codes "rightBound") e) l.right right in
-    let even = has.even in
-    let some = has.some in
-    record { even = sym n ∙ (even ∙ m); some = omega (arith, n, some); left = a; right = b }

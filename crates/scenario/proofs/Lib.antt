@@ -3,8 +3,10 @@ pub mod Counts
 pub mod Facts
 pub mod Faults
 pub mod Few
+pub mod Finds
 pub mod Firsts
 pub mod Ids
+pub mod LanePoints
 pub mod Members
 pub mod OneRefusal
 pub mod Owned

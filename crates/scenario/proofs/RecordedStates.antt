@@ -20,7 +20,7 @@ use Rattle.scenario.proofs.Members.{in_filter_map}
 same_some : (o : Option ℕ) (a b : ℕ) → o ≡ Some a → o ≡ Some b → a ≡ b
 same_some o a b e f = let s : Some a ≡ Some b = sym e ∙ f in cc
 
-along : (tree : List Element) (name : List ℕ) (es : List ℕ) (P Q : ℕ → Type 0) → ((e : ℕ) → Includes es e → P e) → ((e c : ℕ) → P e → first_named tree name e ≡ Some c → Q c) → (c : ℕ) → Includes (take_step tree (first_child name) es) c → Q c
+pub along : (tree : List Element) (name : List ℕ) (es : List ℕ) (P Q : ℕ → Type 0) → ((e : ℕ) → Includes es e → P e) → ((e c : ℕ) → P e → first_named tree name e ≡ Some c → Q c) → (c : ℕ) → Includes (take_step tree (first_child name) es) c → Q c
 along tree name es P Q p q c h = let f = in_filter_map (first_named tree name) es c h in q f.0 c (p f.0 f.1) f.2
 
 -- a position that is a point
@@ -38,7 +38,7 @@ to_place tree e c h is =
 to_point : (tree : List Element) (p c : ℕ) → HasPlace tree p → first_named tree (codes "point") p ≡ Some c → HasPoint tree c coordinate
 to_point tree p c h is = let P : ℕ → Type 0 = λ x. HasPoint tree x coordinate in subst P (same_some (first_named tree (codes "point") p) h.point c h.point_is is) h.has
 
-to_number : (tree : List Element) (name : List ℕ) (n : Number) (e c : ℕ) → HasNumber tree e name n → first_named tree name e ≡ Some c → IsGood n (text_at tree c)
+pub to_number : (tree : List Element) (name : List ℕ) (n : Number) (e c : ℕ) → HasNumber tree e name n → first_named tree name e ≡ Some c → IsGood n (text_at tree c)
 to_number tree name n e c h is = let P : ℕ → Type 0 = λ x. IsGood n (text_at tree x) in subst P (same_some (first_named tree name e) h.child c h.child_is is) h.good
 
 to_time : (tree : List Element) (e c : ℕ) → HasRecorded tree e → first_named tree (codes "time") e ≡ Some c → HasNumber tree c (codes "exact") step_number
@@ -67,21 +67,21 @@ steps_are tree has = along tree (codes "exact") (walk tree time (at_path tree re
 
 -- ---- the checks
 
-one_check : (tree : List Element) (e : ℕ) (k : Check) → (FailsAt tree e k → ⊥) → (j : ℕ) (check : Check) → At (k ∷ []) j check → FailsAt tree e check → ⊥
+pub one_check : (tree : List Element) (e : ℕ) (k : Check) → (FailsAt tree e k → ⊥) → (j : ℕ) (check : Check) → At (k ∷ []) j check → FailsAt tree e check → ⊥
 one_check tree e k none zero check at fails = let P : Check → Type 0 = λ c. FailsAt tree e c in none (subst P at fails)
 one_check tree e k none (suc j) check at fails = absurd at
 
 one_there : (tree : List Element) (e c : ℕ) (name : List ℕ) → first_named tree name e ≡ Some c → lacks_all tree e (name ∷ []) ≡ false
 one_there tree e c name is = rw is refl
 
-both_there : (tree : List Element) (e c d : ℕ) (name other : List ℕ) → first_named tree name e ≡ Some c → first_named tree other e ≡ Some d → lacks_one tree e (name ∷ other ∷ []) ≡ false
+pub both_there : (tree : List Element) (e c d : ℕ) (name other : List ℕ) → first_named tree name e ≡ Some c → first_named tree other e ≡ Some d → lacks_one tree e (name ∷ other ∷ []) ≡ false
 both_there tree e c d name other is also = rw (is, also) refl
 
-not_true : (b : Bool) → b ≡ false → b ≡ true → ⊥
+pub not_true : (b : Bool) → b ≡ false → b ≡ true → ⊥
 not_true b e f = cc
 
 -- no check of the line fails behind this start
-abbrev Fine : List Element → Line → Path → Type 0
+abbrev pub Fine : List Element → Line → Path → Type 0
 Fine tree row s = (w : Path) (e j : ℕ) (check : Check) → Includes row.ways w → Includes (walk tree w (at_path tree s)) e → At row.checks j check → FailsAt tree e check → ⊥
 
 here_is : (tree : List Element) (v w : Path) (e : ℕ) → w ≡ v → Includes (walk tree w (at_path tree recorded)) e → Includes (walk tree v (at_path tree recorded)) e

@@ -5,13 +5,14 @@ use Rattle.std.specs.List.{filter}
 use Rattle.std.specs.Map.{lookup}
 use Rattle.std.proofs.lemmas.Bool.Decides.{eqb_tells}
 use Rattle.std.proofs.lemmas.List.Elements.{filter_more}
-use Rattle.spot_terms.proofs.ListLemmas.{includes_front, pairwise_push}
+use Rattle.spot_terms.proofs.ListLemmas.{includes_front, includes_taken, pairwise_push}
 use Rattle.spot_terms.specs.Lists.{Includes, Pairwise}
 use Rattle.spot_terms.specs.declared.scenario.RawLane.{RawLane}
 use Rattle.spot_claims.specs.Tree.{Element, Rising, is_called, all_named}
 use Rattle.spot_claims.specs.Paths.{at_path, lanelets, id_at}
 use Rattle.spot_claims.specs.Profile.{IsAccepted}
 use Rattle.spot_claims.specs.Scenario.{IsLane}
+use Rattle.scenario.specs.Has.{HasBounds, AllBounds}
 use Rattle.scenario.specs.Lanes.{AddsLane, AreInRange}
 use Rattle.scenario.proofs.Accepts.{not_again}
 use Rattle.scenario.proofs.Members.{each_more}
@@ -119,3 +120,20 @@ lanes_end tree cs n entries h same p =
     let P : List ℕ → Type 0 = λ l. Pairwise (IsLane tree) (filter (IsLanelet tree) l) entries in
     let Q : List ℕ → Type 0 = λ l. Pairwise (IsLane tree) l entries in
     subst Q (same ∙ sym (append-nil (all_named tree (codes "lanelet") 0))) (subst P (take_all n cs h) p)
+
+-- ---- the points of lanelets
+
+pub bounds_more : (tree : List Element) (cs : List ℕ) (n : ℕ) → n < length cs → (IsLanelet tree (get_or cs n 0) ≡ true → HasBounds tree (get_or cs n 0))
+    → ((e : ℕ) → Includes (filter (IsLanelet tree) (take n cs)) e → HasBounds tree e) → (e : ℕ) → Includes (filter (IsLanelet tree) (take (n + 1) cs)) e → HasBounds tree e
+bounds_more tree cs n h at has = λ e listed.
+    let k = in_filter (IsLanelet tree) (take (n + 1) cs) e listed in
+    elim (includes_taken cs n 0 e h k.0) [
+      | inl l ↦ has e (filter_in (IsLanelet tree) (take n cs) e l k.1)
+      | inr s ↦ let P : ℕ → Type 0 = λ x. HasBounds tree x in subst P (sym s) (at (ap (IsLanelet tree) (sym s) ∙ k.1))
+    ]
+
+pub bounds_end : (tree : List Element) (cs : List ℕ) (n : ℕ) → length cs ≤ n → filter (IsLanelet tree) cs ≡ all_named tree (codes "lanelet") 0 → ((e : ℕ) → Includes (filter (IsLanelet tree) (take n cs)) e → HasBounds tree e) → AllBounds tree
+bounds_end tree cs n h same has =
+    let P : List ℕ → Type 0 = λ l. (e : ℕ) → Includes (filter (IsLanelet tree) l) e → HasBounds tree e in
+    let Q : List ℕ → Type 0 = λ l. (e : ℕ) → Includes l e → HasBounds tree e in
+    subst Q (same ∙ sym (append-nil (all_named tree (codes "lanelet") 0))) (subst P (take_all n cs h) has)

@@ -56,6 +56,10 @@ StartsFail tree line = OneOf (λ start. WaysFail tree line.checks.now (at_path t
 abbrev pub LinesFail : List Element → List Line → ℕ → ℕ → Code → Type 0
 LinesFail tree lines = OneOf (StartsFail tree) lines
 
+-- no check of the line fails, if it has one start and several ways, as the lines of the points of lanelets have
+abbrev pub NoPointFails : List Element → Line → Type 0
+NoPointFails tree line = length line.starts.now ≡ 1 → 1 < length line.ways.now → Least (StartsFail tree line) None
+
 -- no check of the line fails behind a start of three steps, which is the path to recorded states
 abbrev pub NoneRecordedFails : List Element → Line → Type 0
 NoneRecordedFails tree line = (start : Bor (List Step)) → Includes line.starts.now start → length start.now ≡ 3 → Least (WaysFail tree line.checks.now (at_path tree (path_of start)) line.ways.now) None

@@ -2,7 +2,7 @@
 use Rattle.std.specs.Prelude.{◌≡◌, ◌⊎◌, ℕ, ◌≤◌, List, [], ◌∷◌, length, Some, false, codes}
 use Rattle.spot_terms.specs.Lists.{Includes}
 use Rattle.spot_claims.specs.Tree.{Element, all_named, first_named, text_at}
-use Rattle.spot_claims.specs.Paths.{at_path, each_child, first_child, id_at}
+use Rattle.spot_claims.specs.Paths.{at_path, each_child, first_child, id_at, lanelets}
 use Rattle.spot_claims.specs.Scenario.{below, bound_points}
 use Rattle.spot_claims.specs.Profile.{Number, lacks_all, is_bad_number, IsTooLarge, IsOutside, coordinate, shape_coordinate, size, angle, speed, step_number, recorded}
 
@@ -112,6 +112,15 @@ pub record HasProblem (tree : List Element) (e : ℕ) : Type 0 where
 
 abbrev pub HasPoints : List Element → List ℕ → Type 0
 HasPoints tree ns = (n : ℕ) → Includes ns n → HasPoint tree n coordinate
+
+-- the points of both bounds
+pub record HasBounds (tree : List Element) (e : ℕ) : Type 0 where
+  pub left : HasPoints tree (bound_points tree (codes "leftBound") e)
+  pub right : HasPoints tree (bound_points tree (codes "rightBound") e)
+
+-- the points of all lanelets
+abbrev pub AllBounds : List Element → Type 0
+AllBounds tree = (e : ℕ) → Includes (at_path tree lanelets) e → HasBounds tree e
 
 pub record HasLane (tree : List Element) (e : ℕ) : Type 0 where
   pub id : ℕ

@@ -6,6 +6,7 @@ use Rattle.spot_terms.specs.Ranges.{IsLaneInRange}
 use Rattle.spot_terms.specs.declared.scenario.RawLane.{RawLane}
 use Rattle.spot_claims.specs.Tree.{Element}
 use Rattle.spot_claims.specs.Scenario.{IsPair, IsLane, bound_points, reference_at, references, neighbour_at, neighbours}
+use Rattle.scenario.specs.Has.{HasBounds}
 use Rattle.scenario.specs.declared.lanes.Link.{Link}
 use Rattle.scenario.specs.declared.lanes.Link.TheVariants.{Any, SameDirection}
 
@@ -21,9 +22,10 @@ pub record IsLaneAt (tree : List Element) (e : ℕ) (l : RawLane) : Type 0 where
   pub predecessors : l.predecessors ≡ references tree (codes "predecessor") e
   pub sides : l.sides ≡ neighbours tree (codes "adjacentLeft") e ++ neighbours tree (codes "adjacentRight") e
 
--- the entries are followed by one more, which is the lanelet of e
+-- the entries are followed by one more, which is the lanelet of e, whose points are all there
 pub record AddsLane (tree : List Element) (e : ℕ) (before after : List (ℕ × RawLane)) : Type 0 where
   pub entry : ℕ × RawLane
+  pub has : HasBounds tree e
   pub is : IsLane tree e entry
   pub within : IsLaneInRange entry.1
   pub after_is : after ≡ before ++ entry ∷ []

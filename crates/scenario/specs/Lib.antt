@@ -1,5 +1,6 @@
 pub mod Answers
 pub mod Fault
+pub mod Found
 pub mod Has
 pub mod Kinds
 pub mod Known

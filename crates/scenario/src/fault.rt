@@ -5,13 +5,13 @@ ghost use Rattle.std.specs.List.{All};
 ghost use Rattle.scenario.specs.Known.{IsKnown};
 ghost use Rattle.spot_claims.specs.Paths.{at_path};
 ghost use Rattle.scenario.specs.Table.{path_of};
-ghost use Rattle.scenario.specs.Has.{AllRecorded};
-ghost use Rattle.scenario.specs.Fault.{Least, least_of, comes_before, ChecksFail, ElementsFail, WaysFail, StartsFail, NoneRecordedFails};
+ghost use Rattle.scenario.specs.Has.{AllBounds, AllRecorded};
+ghost use Rattle.scenario.specs.Fault.{Least, least_of, comes_before, ChecksFail, ElementsFail, WaysFail, StartsFail, NoPointFails, NoneRecordedFails};
 ghost use Rattle.spot_claims.specs.Profile.{Fails};
 
 use crate::checks::fails;
 use crate::known::{Known, know};
-use crate::numbers::is_good;
+use crate::numbers::read_number;
 use crate::recorded::all_have_recorded;
 use crate::table::{Check, Line, Path, RECORDED, lines};
 use crate::walk::walk;
@@ -54,7 +54,7 @@ fn is_good_number(tree: &Tree, e: u32, checks: &[Check]) -> bool
 {
     match checks {
         [Check::BadNumber, second] => match second {
-            Check::OutOfRange(number) => is_good(tree.text(e), number),
+            Check::OutOfRange(number) => read_number(tree.text(e), number).is_some(),
             _ => false,
         },
         _ => false,
@@ -137,18 +137,24 @@ fn fault_from(
     fault_along(alloc, tree, known, &found, line)
 }
 
-// The first fault of a line, where recorded states needn't be looked at if nothing is missing of them.
+// The first fault of a line, where recorded states needn't be looked at if nothing is missing of them, nor points of lanelets
+// if nothing is missing of those: their lines alone have one start and several ways.
 fn fault_of(
     alloc: Global,
     tree: &Tree,
     known: &Known,
     line: &Line,
+    has_points: bool,
     has_states: bool,
 ) -> Result<Option<Fault>, AllocError>
     requires known { IsKnown tree.now known.now }
+    requires points { IsTrue has_points → NoPointFails tree.now line.now }
     requires states { IsTrue has_states → NoneRecordedFails tree.now line.now }
     ensures { IfOk result (λ first. Least (StartsFail tree.now line.now) first) }
 {
+    if has_points && line.starts.len() == 1 && 1 < line.ways.len() {
+        return Ok(None);
+    }
     let mut first = None;
     for start in line.starts {
         let fault = fault_from(alloc, tree, known, line, start, has_states)?;
@@ -166,15 +172,20 @@ fn has_all_states(alloc: Global, tree: &Tree) -> Result<bool, AllocError>
     Ok(all_have_recorded(tree, &states))
 }
 
-/// The first failing check of a tree, where one fails.
-pub(crate) fn first_fault(alloc: Global, tree: &Tree) -> Result<Option<Fault>, AllocError>
+/// The first failing check of a tree, where one fails. Points of lanelets needn't be looked at if they are all there.
+pub(crate) fn first_fault(
+    alloc: Global,
+    tree: &Tree,
+    has_points: bool,
+) -> Result<Option<Fault>, AllocError>
+    requires { IsTrue has_points → AllBounds tree.now }
     ensures { IfOk result (λ first. Least (Fails tree.now) first) }
 {
     let known = know(alloc, tree)?;
     let has_states = has_all_states(alloc, tree)?;
     let mut first = None;
     for line in lines() {
-        let fault = fault_of(alloc, tree, &known, line, has_states)?;
+        let fault = fault_of(alloc, tree, &known, line, has_points, has_states)?;
         first = first_of(first, fault);
     }
     Ok(first)

@@ -1,22 +1,20 @@
-//! The lanelets of an accepted tree.
+//! The lanelets of a tree.
 
-ghost use Rattle.std.specs.Prelude.{◌≡◌, ◌<◌, ◌++◌, ℕ, length, map, Some, None, nat_eq, IfOk, OnOk, codes};
+ghost use Rattle.std.specs.Prelude.{◌≡◌, ◌<◌, ◌≤◌, ◌++◌, ◌↔◌, ℕ, length, map, option_map, Some, None, Ok, true, false, nat_eq, IfOk, OnOk, IsTrue, codes};
 ghost use Rattle.indexmap.specs.IndexMap.{get};
-ghost use Rattle.std.specs.List.{All, AllByRecursion, filter_map};
-ghost use Rattle.spot_terms.specs.Lists.{Pairwise};
+ghost use Rattle.std.specs.List.{All, filter_map};
 ghost use Rattle.spot_claims.specs.Tree.{all_named};
-ghost use Rattle.spot_claims.specs.Paths.{at_path, lanelets, id_at};
-ghost use Rattle.spot_claims.specs.Profile.{IsAccepted};
-ghost use Rattle.spot_claims.specs.Scenario.{IsPair, IsLane, below, reference_at as the_reference_at};
+ghost use Rattle.spot_claims.specs.Paths.{id_at};
+ghost use Rattle.spot_claims.specs.Scenario.{below, reference_at as the_reference_at};
 ghost use Rattle.scenario.specs.Table.{step_of};
-ghost use Rattle.scenario.specs.Has.{HasPoints, HasLane};
-ghost use Rattle.spot_terms.specs.Ranges.{IsLaneInRange, IsPairInRange};
-ghost use Rattle.scenario.specs.Lanes.{link_of, IsLaneAt, AddsLane, AreInRange};
+ghost use Rattle.scenario.specs.Found.{FindsPoints, FindsLane, FindsLanes};
+ghost use Rattle.scenario.specs.Has.{HasLane};
+ghost use Rattle.scenario.specs.Lanes.{link_of, AddsLane};
 
 use crate::known::id_at as id_of_element;
 use crate::numbers::read_id;
 use crate::table::{COORDINATE_RANGE, LEFT_POINT, Path, RIGHT_POINT};
-use crate::values::point_at;
+use crate::values::find_point;
 use crate::walk::{each_child, walk};
 use indexmap::IndexMap;
 use spot_terms::{IdList, PtList, RawLane};
@@ -114,80 +112,97 @@ fn sides_of(alloc: Global, tree: &Tree, e: u32) -> Result<IdList, AllocError>
     Ok(IdList::from_vec(ids))
 }
 
-// The points of these elements.
-fn points_of(alloc: Global, tree: &Tree, elements: &[u32]) -> Result<PtList, AllocError>
-    requires inside { All (λ e. e < length tree.now) elements.now }
-    requires has { HasPoints tree.now elements.now }
-    ensures are { IfOk result (λ points. Pairwise (IsPair tree.now) elements.now points) }
-    ensures within { IfOk result (λ points. AllByRecursion IsPairInRange points) }
+// The points of these elements, exactly where each has one.
+fn points_of(alloc: Global, tree: &Tree, elements: &[u32]) -> Result<Option<PtList>, AllocError>
+    requires { All (λ e. e < length tree.now) elements.now }
+    ensures { IfOk result (λ found. FindsPoints tree.now elements.now found) }
 {
     let mut points = Vec::new(alloc);
     for e in elements {
-        let point = point_at(tree, *e, &COORDINATE_RANGE);
+        let Some(point) = find_point(tree, *e, &COORDINATE_RANGE) else {
+            return Ok(None);
+        };
         points.push((point.x, point.y))?;
     }
-    Ok(PtList::from_vec(points))
+    Ok(Some(PtList::from_vec(points)))
 }
 
 // The points of a bound, by the way to them.
-fn bound_at(alloc: Global, tree: &Tree, e: u32, way: Path) -> Result<PtList, AllocError>
-    requires inside { e < length tree.now }
-    requires has { HasPoints tree.now (below tree.now e (map step_of way.now)) }
-    ensures are { IfOk result (λ points. Pairwise (IsPair tree.now) (below tree.now e (map step_of way.now)) points) }
-    ensures within { IfOk result (λ points. AllByRecursion IsPairInRange points) }
+fn bound_at(alloc: Global, tree: &Tree, e: u32, way: Path) -> Result<Option<PtList>, AllocError>
+    requires { e < length tree.now }
+    ensures { IfOk result (λ found. FindsPoints tree.now (below tree.now e (map step_of way.now)) found) }
 {
     let elements = walk(alloc, tree, way, &[e])?;
     points_of(alloc, tree, &elements)
 }
 
-// The lanelet of an element.
-fn lane_at(alloc: Global, tree: &Tree, e: u32) -> Result<RawLane, AllocError>
-    requires inside { e < length tree.now }
-    requires has { HasLane tree.now e }
-    ensures is { IfOk result (λ lane. IsLaneAt tree.now e lane) }
-    ensures within { IfOk result (λ lane. IsLaneInRange lane) }
+// Whether two bounds have as many points, and at least two.
+fn are_even(left: &PtList, right: &PtList) -> bool
+    ensures { IsTrue result ↔ ((length left.now ≡ length right.now) × (2 ≤ length left.now)) }
 {
-    Ok(RawLane {
-        left: bound_at(alloc, tree, e, LEFT_POINT)?,
-        right: bound_at(alloc, tree, e, RIGHT_POINT)?,
+    let count = left.list().len();
+    count == right.list().len() && 2 <= count
+}
+
+// The lanelet of an element, exactly where it has all that is read of it but for its id.
+fn lane_at(alloc: Global, tree: &Tree, e: u32) -> Result<Option<RawLane>, AllocError>
+    requires { e < length tree.now }
+    ensures { IfOk result (λ found. FindsLane tree.now e found) }
+{
+    let Some(left) = bound_at(alloc, tree, e, LEFT_POINT)? else {
+        return Ok(None);
+    };
+    let Some(right) = bound_at(alloc, tree, e, RIGHT_POINT)? else {
+        return Ok(None);
+    };
+    if !are_even(&left, &right) {
+        return Ok(None);
+    }
+    Ok(Some(RawLane {
+        left,
+        right,
         successors: links_of(alloc, tree, e, "successor")?,
         predecessors: links_of(alloc, tree, e, "predecessor")?,
         sides: sides_of(alloc, tree, e)?,
-    })
+    }))
 }
 
-// Adds the lanelet of an element, whose id isn't there yet.
+// Adds the lanelet of an element, exactly where it has all that is read of it, and no other has its id.
 fn add_lane(
     alloc: Global,
     tree: &Tree,
     e: u32,
     lanes: &mut IndexMap<u32, RawLane>,
-) -> Result<(), AllocError>
-    requires inside { e < length tree.now }
-    requires has { HasLane tree.now e }
-    requires fresh { (i : ℕ) → id_at tree.now e ≡ Some i → get nat_eq lanes.old i ≡ None }
-    ensures { OnOk result (AddsLane tree.now e lanes.old.entries lanes.new.entries) }
+) -> Result<bool, AllocError>
+    requires { e < length tree.now }
+    ensures added { result ≡ Ok true → AddsLane tree.now e lanes.old.entries lanes.new.entries }
+    ensures not { result ≡ Ok false → HasLane tree.now e → ((i : ℕ) → id_at tree.now e ≡ Some i → get nat_eq lanes.old i ≡ None) → ⊥ }
 {
     let Some(id) = id_of_element(tree, e) else {
-        unreachable!()
+        return Ok(false);
     };
-    let lane = lane_at(alloc, tree, e)?;
-    lanes.insert(id, lane)?;
-    Ok(())
+    let Some(lane) = lane_at(alloc, tree, e)? else {
+        return Ok(false);
+    };
+    let other = lanes.insert(id, lane)?;
+    Ok(other.is_none())
 }
 
-/// The lanelets of an accepted tree by their ids, in document order.
-pub(crate) fn lanes_of(alloc: Global, tree: &Tree) -> Result<IndexMap<u32, RawLane>, AllocError>
-    requires { IsAccepted tree.now }
-    ensures are { IfOk result (λ lanes. Pairwise (IsLane tree.now) (at_path tree.now lanelets) lanes.entries) }
-    ensures within { IfOk result (λ lanes. AreInRange lanes.entries) }
+/// The lanelets of a tree by their ids, in document order. There are none only where the tree isn't accepted.
+pub(crate) fn lanes_of(
+    alloc: Global,
+    tree: &Tree,
+) -> Result<Option<IndexMap<u32, RawLane>>, AllocError>
+    ensures { IfOk result (λ found. FindsLanes tree.now (option_map (λ lanes. lanes.entries) found)) }
 {
     prove!(0 < tree.len());
     let mut lanes = IndexMap::new(alloc);
     for e in tree.children(0) {
         if tree.name(*e) == "lanelet" {
-            add_lane(alloc, tree, *e, &mut lanes)?;
+            if !add_lane(alloc, tree, *e, &mut lanes)? {
+                return Ok(None);
+            }
         }
     }
-    Ok(lanes)
+    Ok(Some(lanes))
 }

@@ -5,7 +5,7 @@ ghost use Rattle.spot_terms.specs.Decimal.{Reads};
 ghost use Rattle.spot_claims.specs.Paths.{id_of};
 ghost use Rattle.spot_claims.specs.Profile.{is_bad_number as is_bad, IsTooLarge, IsOutside, IsUneven};
 ghost use Rattle.scenario.specs.Table.{number_of};
-ghost use Rattle.scenario.specs.Has.{IsGood};
+ghost use Rattle.scenario.specs.Found.{ReadsNumber};
 
 use crate::table::Number;
 use spot_decimal::{NumberFault, read_decimal, read_digits};
@@ -76,13 +76,19 @@ pub(crate) fn is_outside(text: &str, number: &Number) -> bool
     }
 }
 
-/// Whether a text is surely a number in its range.
-pub(crate) fn is_good(text: &str, number: &Number) -> bool
-    ensures { IsTrue result → IsGood (number_of number.now) text.now }
+/// The number that a text says, exactly where it is one in its range.
+pub(crate) fn read_number(text: &str, number: &Number) -> Option<i64>
+    ensures { ReadsNumber (number_of number.now) text.now result }
 {
     match read_decimal(text, number.unit.places()) {
-        Ok(reading) => !is_past(reading, number),
-        Err(_) => false,
+        Ok(reading) => {
+            if is_past(reading, number) {
+                None
+            } else {
+                Some(reading as i64)
+            }
+        }
+        Err(_) => None,
     }
 }
 

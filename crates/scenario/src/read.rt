@@ -1,6 +1,6 @@
 //! The scenario of a tree, or its refusal.
 
-ghost use Rattle.std.specs.Prelude.{◌≡◌, ◌+◌, ◌*◌, ◌≤◌, length, pos, OnOk, IfOk, IfErr};
+ghost use Rattle.std.specs.Prelude.{◌≡◌, ◌+◌, ◌*◌, ◌≤◌, length, pos, OnOk, IfOk, IfErr, IsTrue};
 ghost use Rattle.std.specs.List.{AllByRecursion};
 ghost use Rattle.spot_terms.specs.Decimal.{Reads};
 ghost use Rattle.spot_terms.specs.Lists.{Pairwise};
@@ -10,6 +10,8 @@ ghost use Rattle.spot_claims.specs.Paths.{at_path, statics, dynamics, problems a
 ghost use Rattle.spot_claims.specs.Scenario.{IsScenario, IsMover, IsFixed, IsProblem};
 ghost use Rattle.spot_claims.specs.Profile.{IsAccepted, step_size_text};
 ghost use Rattle.scenario.specs.Answers.{IsWhy};
+ghost use Rattle.scenario.specs.Found.{AreWholeLanes};
+ghost use Rattle.scenario.specs.Has.{AllBounds};
 
 use crate::checks::step_size_text as text_of_step;
 use crate::fault::first_fault;
@@ -18,7 +20,8 @@ use crate::lanes::lanes_of;
 use crate::numbers::step_in;
 use crate::table::{DYNAMICS, PROBLEMS, STATICS};
 use crate::walk::walk;
-use spot_terms::{Code, FixedList, MOST_TICKS, Movers, Problems, Scenario};
+use indexmap::IndexMap;
+use spot_terms::{Code, FixedList, MOST_TICKS, Movers, Problems, RawLane, Scenario};
 use spot_tree::Tree;
 use std::alloc::{AllocError, Global};
 use thiserror::Error;
@@ -46,11 +49,12 @@ impl From<AllocError> for ReadFault {
 
 // Whether no check of the profile fails. Otherwise the refusal is the failing check at the least place, and at one place
 // the first of the element's line.
-fn accept(alloc: Global, tree: &Tree) -> Result<(), ReadFault>
+fn accept(alloc: Global, tree: &Tree, has_points: bool) -> Result<(), ReadFault>
+    requires { IsTrue has_points → AllBounds tree.now }
     ensures ok { OnOk result (IsAccepted tree.now) }
     ensures err { IfErr result (λ fault. IsWhy tree.now fault) }
 {
-    match first_fault(alloc, tree)? {
+    match first_fault(alloc, tree, has_points)? {
         None => Ok(()),
         Some(fault) => Err(ReadFault::Refused(fault.code, fault.place)),
     }
@@ -102,16 +106,21 @@ fn problems_in(alloc: Global, tree: &Tree) -> Result<Problems, AllocError>
     Ok(Problems::from_vec(problems_of(alloc, tree, &elements)?))
 }
 
-// The scenario of an accepted tree.
-fn values_of(alloc: Global, tree: &Tree) -> Result<Scenario, AllocError>
-    requires { IsAccepted tree.now }
+// The scenario of an accepted tree with these lanelets.
+fn values_of(
+    alloc: Global,
+    tree: &Tree,
+    lanelets: IndexMap<u32, RawLane>,
+) -> Result<Scenario, AllocError>
+    requires accepted { IsAccepted tree.now }
+    requires lanelets { AreWholeLanes tree.now lanelets.entries }
     ensures is { IfOk result (λ s. IsScenario tree.now s) }
     ensures ids { IfOk result (λ s. HaveUniqueIds s) }
 {
     prove!(0 < tree.len());
     Ok(Scenario {
         step: step_of(tree),
-        lanelets: lanes_of(alloc, tree)?,
+        lanelets,
         movers: movers_in(alloc, tree)?,
         fixed: fixed_in(alloc, tree)?,
         problems: problems_in(alloc, tree)?,
@@ -128,6 +137,10 @@ pub fn read_scenario(alloc: Global, tree: &Tree) -> Result<Scenario, ReadFault>
     ensures ids { IfOk result (λ s. HaveUniqueIds s) }
     ensures err { IfErr result (λ fault. IsWhy tree.now fault) }
 {
-    accept(alloc, tree)?;
-    Ok(values_of(alloc, tree)?)
+    let found = lanes_of(alloc, tree)?;
+    accept(alloc, tree, found.is_some())?;
+    match found {
+        Some(lanelets) => Ok(values_of(alloc, tree, lanelets)?),
+        None => unreachable!(),
+    }
 }

@@ -7,7 +7,7 @@ ghost use Rattle.spot_claims.specs.Profile.{coordinate, step_number};
 ghost use Rattle.scenario.specs.Table.{number_of};
 ghost use Rattle.scenario.specs.Has.{HasNumber, HasPoint, HasExact, HasPosition, HasRecorded};
 
-use crate::numbers::is_good;
+use crate::numbers::read_number;
 use crate::table::{COORDINATE_RANGE, Number, TIME_RANGE};
 use spot_tree::Tree;
 
@@ -17,7 +17,7 @@ fn has_number(tree: &Tree, e: u32, name: &str, number: &Number) -> bool
     ensures { IsTrue result → HasNumber tree.now e name.now (number_of number.now) }
 {
     match tree.child(e, name) {
-        Some(child) => is_good(tree.text(child), number),
+        Some(child) => read_number(tree.text(child), number).is_some(),
         None => false,
     }
 }

@@ -2,27 +2,41 @@
 
 ghost use Rattle.std.specs.Prelude.{◌≡◌, ◌<◌, ◌≤◌, length, pos, codes};
 ghost use Rattle.spot_terms.specs.Whole.{Within, SizeAtMost};
-ghost use Rattle.spot_terms.specs.Decimal.{Reads};
 ghost use Rattle.spot_claims.specs.Profile.{angle, speed, step_number};
 ghost use Rattle.spot_claims.specs.Radii.{Holds, HoldsPt};
 ghost use Rattle.spot_claims.specs.Scenario.{HoldsExact, HoldsPosition};
 ghost use Rattle.scenario.specs.Table.{number_of};
-ghost use Rattle.scenario.specs.Has.{IsGood, HasNumber, HasPoint, HasExact, HasPosition};
+ghost use Rattle.scenario.specs.Found.{FindsNumber, FindsPoint};
+ghost use Rattle.scenario.specs.Has.{HasNumber, HasPoint, HasExact, HasPosition};
 
+use crate::numbers::read_number;
 use crate::table::{ANGLE_RANGE, COORDINATE_RANGE, Number, SPEED_RANGE, TIME_RANGE};
-use spot_decimal::read_decimal;
 use spot_terms::{MOST_ANGLE, MOST_COORDINATE, MOST_SPEED, MOST_TIME, Pt};
 use spot_tree::Tree;
 
-// The number that a text says, which is one in its range.
-fn number_in(text: &str, number: &Number) -> i64
-    requires { IsGood (number_of number.now) text.now }
-    ensures reads { Reads (number_of number.now).places text.now result }
-    ensures within { Within number.now.least number.now.most result }
+// The number in the first child of a name, exactly where there is one in its range.
+fn find_number(tree: &Tree, e: u32, name: &str, number: &Number) -> Option<i64>
+    requires { e < length tree.now }
+    ensures { FindsNumber tree.now e name.now (number_of number.now) result }
 {
-    match read_decimal(text, number.unit.places()) {
-        Ok(reading) => reading as i64,
-        Err(_) => unreachable!(),
+    match tree.child(e, name) {
+        Some(child) => read_number(tree.text(child), number),
+        None => None,
+    }
+}
+
+/// The point in the children `x` and `y`, exactly where both are there and in their range.
+pub(crate) fn find_point(tree: &Tree, e: u32, number: &Number) -> Option<Pt>
+    requires inside { e < length tree.now }
+    requires micro { (number_of number.now).places ≡ 6 }
+    ensures { FindsPoint tree.now e (number_of number.now) result }
+{
+    let Some(x) = find_number(tree, e, "x", number) else {
+        return None;
+    };
+    match find_number(tree, e, "y", number) {
+        Some(y) => Some(Pt { x, y }),
+        None => None,
     }
 }
 
@@ -33,8 +47,8 @@ pub(crate) fn number_at(tree: &Tree, e: u32, name: &str, number: &Number) -> i64
     ensures holds { Holds tree.now e name.now (number_of number.now).places result }
     ensures within { Within number.now.least number.now.most result }
 {
-    match tree.child(e, name) {
-        Some(child) => number_in(tree.text(child), number),
+    match find_number(tree, e, name, number) {
+        Some(value) => value,
         None => unreachable!(),
     }
 }
@@ -48,9 +62,9 @@ pub(crate) fn point_at(tree: &Tree, e: u32, number: &Number) -> Pt
     ensures x_within { Within number.now.least number.now.most result.x }
     ensures y_within { Within number.now.least number.now.most result.y }
 {
-    Pt {
-        x: number_at(tree, e, "x", number),
-        y: number_at(tree, e, "y", number),
+    match find_point(tree, e, number) {
+        Some(point) => point,
+        None => unreachable!(),
     }
 }
 

@@ -14,3 +14,6 @@ loop-start-preserved c = one_step (λ start. WaysFail c.args.tree.now c.args.lin
 
 pub returns : goal.returns
 returns c = one_end (λ start. WaysFail c.args.tree.now c.args.line.now.checks.now (at_path c.args.tree.now (path_of start)) c.args.line.now.ways.now) c.args.line.now.starts.now c.loop-start.start-index c.loop-start.first (omega arith) c.loop-start.invariant
+
+pub returns-then-line-gt1 : goal.returns-then-line-gt1
+returns-then-line-gt1 c = c.requires.points c.if-has_points.true c.if-line-eq1.true c.if-line-gt1.true

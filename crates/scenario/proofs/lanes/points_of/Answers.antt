@@ -2,21 +2,24 @@ use Rattle.spot_terms.specs.Ranges.{IsPairInRange}
 use Rattle.std.proofs.Common.{get_or, arith}
 use Rattle.spot_claims.specs.Scenario.{IsPair}
 use Rattle.scenario.proofs.Facts.{pair_is, pair_in, size_of}
+use Rattle.scenario.proofs.Finds.{points_more}
 use Rattle.scenario.proofs.Members.{item_in, pair_taken, each_more}
 use Rattle.scenario.proofs.Readings.{held_in}
 use Rattle.scenario.proofs.lanes.points_of.Goals as goal
 
-pub point_at-point-requires-clause-has : goal.point_at-point-requires-clause-has
-point_at-point-requires-clause-has c = c.requires.has (get_or c.args.elements.now c.loop-e.e-index 0) (item_in c.args.elements.now c.loop-e.e-index 0 c.loop-e-test.true)
-
 pub loop-e-preserved : goal.loop-e-preserved
 loop-e-preserved c =
-    let x = size_of c.point_at-point.result.x c.point_at-point.ensures.x_within in
-    let y = size_of c.point_at-point.result.y c.point_at-point.ensures.y_within in
-    let hx = held_in c.point_at-point.result.x 10_000_000_000_000 x (omega arith) in
-    let hy = held_in c.point_at-point.result.y 10_000_000_000_000 y (omega arith) in
+    let at = c.in-Some.ensures in
+    let x = size_of c.in-Some.point.x at.x_within in
+    let y = size_of c.in-Some.point.y at.y_within in
+    let hx = held_in c.in-Some.point.x 10_000_000_000_000 x (omega arith) in
+    let hy = held_in c.in-Some.point.y 10_000_000_000_000 y (omega arith) in
     record {
+      has = points_more c.args.tree.now c.args.elements.now c.loop-e.e-index c.loop-e-test.true c.loop-e.invariant.has at.has;
       are = pair_taken (IsPair c.args.tree.now) c.args.elements.now c.loop-e.points.items c.push.new.self.items c.loop-e.e-index 0 _ c.loop-e-test.true c.in_ok-push.ensures.items c.loop-e.invariant.are
-          (pair_is c.args.tree.now (get_or c.args.elements.now c.loop-e.e-index 0) c.point_at-point.result _ hx hy c.point_at-point.ensures.holds);
-      within = each_more IsPairInRange c.loop-e.points.items c.push.new.self.items _ c.in_ok-push.ensures.items c.loop-e.invariant.within (pair_in c.point_at-point.result _ hx hy x y);
+          (pair_is c.args.tree.now (get_or c.args.elements.now c.loop-e.e-index 0) c.in-Some.point _ hx hy at.holds);
+      within = each_more IsPairInRange c.loop-e.points.items c.push.new.self.items _ c.in_ok-push.ensures.items c.loop-e.invariant.within (pair_in c.in-Some.point _ hx hy x y);
     }
+
+pub returns-in_default : goal.returns-in_default
+returns-in_default c = λ has. c.in_default.ensures (has (get_or c.args.elements.now c.loop-e.e-index 0) (item_in c.args.elements.now c.loop-e.e-index 0 c.loop-e-test.true))

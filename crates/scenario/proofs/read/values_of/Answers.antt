@@ -16,15 +16,15 @@ invariant_of-result c =
       in_range = record {
         step_low = c.step_of.ensures.low;
         step_high = c.step_of.ensures.high;
-        few = omega (arith, n, m, few_obstacles c.args.tree.now c.requires c.len.ensures.tree);
+        few = omega (arith, n, m, few_obstacles c.args.tree.now c.requires.accepted c.len.ensures.tree);
         few_recorded = few_recorded c.args.tree.now c.len.ensures.tree c.in_ok-movers_in.field-0 c.in_ok-problems_in.field-0 c.in_ok-movers_in.ensures.are c.in_ok-problems_in.ensures.are;
-        buildable = record { each = c.in_ok-lanes_of.ensures.within; few = few_held c.args.tree.now c.len.ensures.tree _ c.in_ok-lanes_of.ensures.are };
+        buildable = record { each = c.requires.lanelets.within; few = few_held c.args.tree.now c.len.ensures.tree _ c.requires.lanelets.are };
         each_mover = c.in_ok-movers_in.ensures.within;
-        each_state = states_in_range c.args.tree.now c.requires c.in_ok-movers_in.field-0 c.in_ok-movers_in.ensures.are;
+        each_state = states_in_range c.args.tree.now c.requires.accepted c.in_ok-movers_in.field-0 c.in_ok-movers_in.ensures.are;
         each_fixed = c.in_ok-fixed_in.ensures.within;
         each_problem = c.in_ok-problems_in.ensures.within;
       };
     }
 
 pub returns-clause-ids : goal.returns-clause-ids
-returns-clause-ids c = unique_ids c.args.tree.now c.requires c.len.ensures.tree _ c.in_ok-lanes_of.ensures.are c.in_ok-movers_in.ensures.are c.in_ok-fixed_in.ensures.are c.in_ok-problems_in.ensures.are
+returns-clause-ids c = unique_ids c.args.tree.now c.requires.accepted c.len.ensures.tree _ c.requires.lanelets.are c.in_ok-movers_in.ensures.are c.in_ok-fixed_in.ensures.are c.in_ok-problems_in.ensures.are
