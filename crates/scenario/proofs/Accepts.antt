@@ -14,7 +14,7 @@ use Rattle.scenario.proofs.Paths.{walk_append}
 use Rattle.spot_claims.specs.Scenario.{bound_points}
 use Rattle.std.proofs.lemmas.Bool.Decides.{nat_tests}
 use Rattle.scenario.proofs.Firsts.{second_at}
-use Rattle.scenario.proofs.Members.{any_in, item_in, in_last}
+use Rattle.scenario.proofs.Members.{any_in, item_in, in_last, in_filter_map}
 
 -- ---- no check fails
 
@@ -64,6 +64,13 @@ pub through_first : {X Y : Type 0} (f : X → Option Y) (xs : List X) (x : X) (y
 through_first f [] x y h e = absurd h
 through_first f (z ∷ xs) x y (inl s) e = some_in f z xs y (ap f (sym s) ∙ e)
 through_first f (z ∷ xs) x y (inr h) e = rest_in f z xs y (f z) refl (through_first f xs x y h e)
+
+-- what a first child and each child of it lead to from a list, they lead to from one of the list
+pub from_one : (tree : List Element) (name each : List ℕ) (es : List ℕ) (c : ℕ) → Includes (walk tree (first_child name ∷ each_child each ∷ []) es) c → (e : ℕ) × Includes es e × Includes (walk tree (first_child name ∷ each_child each ∷ []) (e ∷ [])) c
+from_one tree name each es c h =
+    let b = in_flat_map (all_named tree each) (filter_map (first_named tree name) es) c h in
+    let e = in_filter_map (first_named tree name) es b.0 b.1 in
+    (e.0, e.1, includes_flat_map (all_named tree each) (filter_map (first_named tree name) (e.0 ∷ [])) b.0 c (through_first (first_named tree name) (e.0 ∷ []) e.0 b.0 (inl refl) e.2) b.2)
 
 one_more : (tree : List Element) (s w : Path) (e : ℕ) (name : List ℕ) (c : ℕ) → Includes (walk tree w (at_path tree s)) e → first_named tree name e ≡ Some c → Includes (walk tree (to_first w name) (at_path tree s)) c
 one_more tree s w e name c here is =

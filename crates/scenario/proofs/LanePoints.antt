@@ -1,11 +1,10 @@
 -- No check fails at points of lanelets that are all there.
-use Rattle.std.proofs.Common.{◌≡◌, ◌<◌, ◌∙◌, inl, inr, ℕ, List, [], ◌∷◌, length, map, false, refl, sym, subst, arith, codes}
+use Rattle.std.proofs.Common.{◌≡◌, ◌<◌, ◌∙◌, inl, inr, ℕ, List, [], ◌∷◌, length, map, false, sym, subst, arith, codes}
 use Rattle.std.proofs.lemmas.List.{length-map}
-use Rattle.std.specs.List.{AllByRecursion, filter_map}
-use Rattle.spot_terms.proofs.ListLemmas.{all_included, includes_map, includes_flat_map}
-use Rattle.spot_terms.proofs.Members.{in_flat_map}
+use Rattle.std.specs.List.{AllByRecursion}
+use Rattle.spot_terms.proofs.ListLemmas.{all_included, includes_map}
 use Rattle.spot_terms.specs.Lists.{Includes}
-use Rattle.spot_claims.specs.Tree.{Element, first_named, all_named, text_at}
+use Rattle.spot_claims.specs.Tree.{Element, text_at}
 use Rattle.spot_claims.specs.Paths.{Path, first_child, each_child, walk, at_path, lanelets}
 use Rattle.spot_claims.specs.Profile.{Line, lacks_a_child, lacks_one, profile, to_first, coordinate, bound_point_line, bound_number_line}
 use Rattle.spot_claims.specs.Scenario.{bound_points}
@@ -13,9 +12,8 @@ use Rattle.scenario.specs.Fault.{NoPointFails}
 use Rattle.scenario.specs.Has.{IsGood, HasPoint, HasPoints, HasBounds, AllBounds}
 use Rattle.scenario.specs.Table.{line_of, path_of}
 use Rattle.scenario.specs.declared.table.Line as table
-use Rattle.scenario.proofs.Accepts.{through_first}
+use Rattle.scenario.proofs.Accepts.{from_one}
 use Rattle.scenario.proofs.Faults.{no_fault}
-use Rattle.scenario.proofs.Members.{in_filter_map}
 use Rattle.scenario.proofs.RecordedStates.{along, to_number, one_check, both_there, not_true, Fine}
 
 -- ---- along the ways to points and numbers
@@ -24,10 +22,7 @@ abbrev to_points : List ℕ → Path
 to_points bound = first_child bound ∷ each_child (codes "point") ∷ []
 
 points_are : (tree : List Element) → AllBounds tree → (bound : List ℕ) → ((e : ℕ) → HasBounds tree e → HasPoints tree (bound_points tree bound e)) → (c : ℕ) → Includes (walk tree (to_points bound) (at_path tree lanelets)) c → HasPoint tree c coordinate
-points_are tree has bound of c h =
-    let b = in_flat_map (all_named tree (codes "point")) (filter_map (first_named tree bound) (at_path tree lanelets)) c h in
-    let e = in_filter_map (first_named tree bound) (at_path tree lanelets) b.0 b.1 in
-    of e.0 (has e.0 e.1) c (includes_flat_map (all_named tree (codes "point")) (filter_map (first_named tree bound) (e.0 ∷ [])) b.0 c (through_first (first_named tree bound) (e.0 ∷ []) e.0 b.0 (inl refl) e.2) b.2)
+points_are tree has bound of c h = let one = from_one tree bound (codes "point") (at_path tree lanelets) c h in of one.0 (has one.0 one.1) c one.2
 
 left_are : (tree : List Element) → AllBounds tree → (c : ℕ) → Includes (walk tree (to_points (codes "leftBound")) (at_path tree lanelets)) c → HasPoint tree c coordinate
 left_are tree has = points_are tree has (codes "leftBound") (λ e b. b.left)

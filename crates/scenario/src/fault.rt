@@ -12,8 +12,7 @@ ghost use Rattle.spot_claims.specs.Profile.{Fails};
 use crate::checks::fails;
 use crate::known::{Known, know};
 use crate::numbers::read_number;
-use crate::recorded::all_have_recorded;
-use crate::table::{Check, Line, Path, RECORDED, lines};
+use crate::table::{Check, Line, Path, lines};
 use crate::walk::walk;
 use spot_terms::Code;
 use spot_tree::Tree;
@@ -163,26 +162,19 @@ fn fault_of(
     Ok(first)
 }
 
-// Whether recorded states have all that is read of them.
-fn has_all_states(alloc: Global, tree: &Tree) -> Result<bool, AllocError>
-    ensures { IfOk result (λ has. IsTrue has → AllRecorded tree.now) }
-{
-    prove!(0 < tree.len());
-    let states = walk(alloc, tree, RECORDED, &[0])?;
-    Ok(all_have_recorded(tree, &states))
-}
-
-/// The first failing check of a tree, where one fails. Points of lanelets needn't be looked at if they are all there.
+/// The first failing check of a tree, where one fails. Points of lanelets and recorded states needn't be looked at if nothing is
+/// missing of them.
 pub(crate) fn first_fault(
     alloc: Global,
     tree: &Tree,
     has_points: bool,
+    has_states: bool,
 ) -> Result<Option<Fault>, AllocError>
-    requires { IsTrue has_points → AllBounds tree.now }
+    requires points { IsTrue has_points → AllBounds tree.now }
+    requires states { IsTrue has_states → AllRecorded tree.now }
     ensures { IfOk result (λ first. Least (Fails tree.now) first) }
 {
     let known = know(alloc, tree)?;
-    let has_states = has_all_states(alloc, tree)?;
     let mut first = None;
     for line in lines() {
         let fault = fault_of(alloc, tree, &known, line, has_points, has_states)?;

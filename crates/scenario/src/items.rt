@@ -1,20 +1,18 @@
 //! The obstacles and the problems of an accepted tree.
 
-ghost use Rattle.std.specs.Prelude.{◌≡◌, ◌<◌, ℕ, length, map, Some, IfOk, codes};
+ghost use Rattle.std.specs.Prelude.{◌≡◌, ◌<◌, ℕ, length, map, IfOk};
 ghost use Rattle.std.specs.List.{All, AllByRecursion};
 ghost use Rattle.spot_terms.specs.Lists.{Includes, Pairwise};
 ghost use Rattle.spot_terms.specs.Types.{type_named, types};
 ghost use Rattle.scenario.specs.Kinds.{view_of, key_of};
 ghost use Rattle.spot_terms.specs.Ranges.{IsMoverInRange, IsFixedInRange, IsProblemInRange};
-ghost use Rattle.spot_claims.specs.Tree.{first_named};
-ghost use Rattle.spot_claims.specs.Scenario.{IsMover, IsFixed, IsProblem, IsRecorded, recorded_of, type_text};
-ghost use Rattle.scenario.specs.Has.{HasFixed, HasMover, HasProblem, HasRecorded};
+ghost use Rattle.spot_claims.specs.Scenario.{IsMover, IsFixed, IsProblem, type_text};
+ghost use Rattle.scenario.specs.Found.{IsTrack};
+ghost use Rattle.scenario.specs.Has.{HasFixed, HasMover, HasProblem};
 
 use crate::known::id_at;
 use crate::shapes::shape_at;
-use crate::table::LATER_STATES;
 use crate::values::{angle_at, position_at, speed_at, time_at};
-use crate::walk::walk;
 use spot_terms::{Fixed, Kind, Mover, Problem, StateList};
 use spot_tree::Tree;
 use std::alloc::{AllocError, Global};
@@ -154,32 +152,6 @@ pub(crate) fn fixed_of(
     Ok(fixed)
 }
 
-// What is recorded of a state: its step, and x and y.
-fn recorded_at(tree: &Tree, e: u32) -> (u32, i64, i64)
-    requires inside { e < length tree.now }
-    requires has { HasRecorded tree.now e }
-    ensures { IsRecorded tree.now e result }
-{
-    let position = position_at(tree, e);
-    (time_at(tree, e), position.x, position.y)
-}
-
-// What is recorded of a dynamic obstacle: its initial state, and the states of its first trajectory.
-fn all_recorded(alloc: Global, tree: &Tree, e: u32, start: u32) -> Result<StateList, AllocError>
-    requires inside { e < length tree.now }
-    requires start_inside { start < length tree.now }
-    requires start_is { first_named tree.now (codes "initialState") e ≡ Some start }
-    requires has { HasMover tree.now e }
-    ensures { IfOk result (λ recorded. Pairwise (IsRecorded tree.now) (recorded_of tree.now e) recorded) }
-{
-    let states = walk(alloc, tree, LATER_STATES, &[e])?;
-    let mut recorded = vec![in alloc; recorded_at(tree, start)]?;
-    for state in &states {
-        recorded.push(recorded_at(tree, *state))?;
-    }
-    Ok(StateList::from_vec(recorded))
-}
-
 // The types that have names of their own.
 fn kinds() -> &'static [NamedKind]
     ensures { map view_of result.now ≡ map key_of types }
@@ -210,10 +182,11 @@ fn kind_at(tree: &Tree, e: u32) -> Kind
     }
 }
 
-// The dynamic obstacle of an element.
-fn mover_at(alloc: Global, tree: &Tree, e: u32) -> Result<Mover, AllocError>
+// The dynamic obstacle of an element, with what is recorded of it.
+fn mover_at(alloc: Global, tree: &Tree, e: u32, recorded: StateList) -> Result<Mover, AllocError>
     requires inside { e < length tree.now }
     requires has { HasMover tree.now e }
+    requires track { IsTrack tree.now e recorded }
     ensures is { IfOk result (λ mover. IsMover tree.now e mover) }
     ensures within { IfOk result (λ mover. IsMoverInRange mover) }
 {
@@ -239,24 +212,30 @@ fn mover_at(alloc: Global, tree: &Tree, e: u32) -> Result<Mover, AllocError>
         y: position.y,
         speed: speed_at(tree, start),
         angle: angle_at(tree, start),
-        recorded: all_recorded(alloc, tree, e, start)?,
+        recorded,
     })
 }
 
-/// The dynamic obstacles of these elements.
+/// The dynamic obstacles of these elements, with what is recorded of each.
 pub(crate) fn movers_of(
     alloc: Global,
     tree: &Tree,
     elements: &[u32],
+    tracks: Vec<StateList>,
 ) -> Result<Vec<Mover>, AllocError>
     requires inside { All (λ e. e < length tree.now) elements.now }
     requires has { (e : ℕ) → Includes elements.now e → HasMover tree.now e }
+    requires tracks { Pairwise (IsTrack tree.now) elements.now tracks.items }
     ensures are { IfOk result (λ movers. Pairwise (IsMover tree.now) elements.now movers.items) }
     ensures within { IfOk result (λ movers. AllByRecursion IsMoverInRange movers.items) }
 {
     let mut movers = Vec::new(alloc);
+    let mut tracks = tracks.into_iter();
     for e in elements {
-        movers.push(mover_at(alloc, tree, *e)?)?;
+        let Some(recorded) = tracks.next() else {
+            unreachable!()
+        };
+        movers.push(mover_at(alloc, tree, *e, recorded)?)?;
     }
     Ok(movers)
 }

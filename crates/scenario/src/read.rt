@@ -10,18 +10,19 @@ ghost use Rattle.spot_claims.specs.Paths.{at_path, statics, dynamics, problems a
 ghost use Rattle.spot_claims.specs.Scenario.{IsScenario, IsMover, IsFixed, IsProblem};
 ghost use Rattle.spot_claims.specs.Profile.{IsAccepted, step_size_text};
 ghost use Rattle.scenario.specs.Answers.{IsWhy};
-ghost use Rattle.scenario.specs.Found.{AreWholeLanes};
-ghost use Rattle.scenario.specs.Has.{AllBounds};
+ghost use Rattle.scenario.specs.Found.{AreWholeLanes, AreWholeTracks};
+ghost use Rattle.scenario.specs.Has.{AllBounds, AllRecorded};
 
 use crate::checks::step_size_text as text_of_step;
 use crate::fault::first_fault;
 use crate::items::{fixed_of, movers_of, problems_of};
 use crate::lanes::lanes_of;
 use crate::numbers::step_in;
+use crate::recorded::tracks_of;
 use crate::table::{DYNAMICS, PROBLEMS, STATICS};
 use crate::walk::walk;
 use indexmap::IndexMap;
-use spot_terms::{Code, FixedList, MOST_TICKS, Movers, Problems, RawLane, Scenario};
+use spot_terms::{Code, FixedList, MOST_TICKS, Movers, Problems, RawLane, Scenario, StateList};
 use spot_tree::Tree;
 use std::alloc::{AllocError, Global};
 use thiserror::Error;
@@ -49,12 +50,13 @@ impl From<AllocError> for ReadFault {
 
 // Whether no check of the profile fails. Otherwise the refusal is the failing check at the least place, and at one place
 // the first of the element's line.
-fn accept(alloc: Global, tree: &Tree, has_points: bool) -> Result<(), ReadFault>
-    requires { IsTrue has_points → AllBounds tree.now }
+fn accept(alloc: Global, tree: &Tree, has_points: bool, has_states: bool) -> Result<(), ReadFault>
+    requires points { IsTrue has_points → AllBounds tree.now }
+    requires states { IsTrue has_states → AllRecorded tree.now }
     ensures ok { OnOk result (IsAccepted tree.now) }
     ensures err { IfErr result (λ fault. IsWhy tree.now fault) }
 {
-    match first_fault(alloc, tree, has_points)? {
+    match first_fault(alloc, tree, has_points, has_states)? {
         None => Ok(()),
         Some(fault) => Err(ReadFault::Refused(fault.code, fault.place)),
     }
@@ -73,15 +75,16 @@ fn step_of(tree: &Tree) -> u32
     }
 }
 
-// The dynamic obstacles.
-fn movers_in(alloc: Global, tree: &Tree) -> Result<Movers, AllocError>
-    requires { IsAccepted tree.now }
+// The dynamic obstacles, with what is recorded of them.
+fn movers_in(alloc: Global, tree: &Tree, tracks: Vec<StateList>) -> Result<Movers, AllocError>
+    requires accepted { IsAccepted tree.now }
+    requires tracks { AreWholeTracks tree.now tracks.items }
     ensures are { IfOk result (λ movers. Pairwise (IsMover tree.now) (at_path tree.now dynamics) movers) }
     ensures within { IfOk result (λ movers. AllByRecursion IsMoverInRange movers) }
 {
     prove!(0 < tree.len());
     let elements = walk(alloc, tree, DYNAMICS, &[0])?;
-    Ok(Movers::from_vec(movers_of(alloc, tree, &elements)?))
+    Ok(Movers::from_vec(movers_of(alloc, tree, &elements, tracks)?))
 }
 
 // The static obstacles.
@@ -106,14 +109,16 @@ fn problems_in(alloc: Global, tree: &Tree) -> Result<Problems, AllocError>
     Ok(Problems::from_vec(problems_of(alloc, tree, &elements)?))
 }
 
-// The scenario of an accepted tree with these lanelets.
+// The scenario of an accepted tree with these lanelets and recorded states.
 fn values_of(
     alloc: Global,
     tree: &Tree,
     lanelets: IndexMap<u32, RawLane>,
+    tracks: Vec<StateList>,
 ) -> Result<Scenario, AllocError>
     requires accepted { IsAccepted tree.now }
     requires lanelets { AreWholeLanes tree.now lanelets.entries }
+    requires tracks { AreWholeTracks tree.now tracks.items }
     ensures is { IfOk result (λ s. IsScenario tree.now s) }
     ensures ids { IfOk result (λ s. HaveUniqueIds s) }
 {
@@ -121,7 +126,7 @@ fn values_of(
     Ok(Scenario {
         step: step_of(tree),
         lanelets,
-        movers: movers_in(alloc, tree)?,
+        movers: movers_in(alloc, tree, tracks)?,
         fixed: fixed_in(alloc, tree)?,
         problems: problems_in(alloc, tree)?,
     })
@@ -137,10 +142,11 @@ pub fn read_scenario(alloc: Global, tree: &Tree) -> Result<Scenario, ReadFault>
     ensures ids { IfOk result (λ s. HaveUniqueIds s) }
     ensures err { IfErr result (λ fault. IsWhy tree.now fault) }
 {
-    let found = lanes_of(alloc, tree)?;
-    accept(alloc, tree, found.is_some())?;
-    match found {
-        Some(lanelets) => Ok(values_of(alloc, tree, lanelets)?),
-        None => unreachable!(),
+    let lanelets = lanes_of(alloc, tree)?;
+    let tracks = tracks_of(alloc, tree)?;
+    accept(alloc, tree, lanelets.is_some(), tracks.is_some())?;
+    match (lanelets, tracks) {
+        (Some(lanelets), Some(tracks)) => Ok(values_of(alloc, tree, lanelets, tracks)?),
+        _ => unreachable!(),
     }
 }

@@ -1,77 +1,64 @@
-//! Whether recorded states have all that is read of them.
+//! What is recorded of dynamic obstacles: their states.
 
-ghost use Rattle.std.specs.Prelude.{◌<◌, ℕ, length, IsTrue, codes};
-ghost use Rattle.std.specs.List.{All};
-ghost use Rattle.spot_terms.specs.Lists.{Includes};
-ghost use Rattle.spot_claims.specs.Profile.{coordinate, step_number};
-ghost use Rattle.scenario.specs.Table.{number_of};
-ghost use Rattle.scenario.specs.Has.{HasNumber, HasPoint, HasExact, HasPosition, HasRecorded};
+ghost use Rattle.std.specs.Prelude.{◌<◌, length, option_map, IfOk};
+ghost use Rattle.scenario.specs.Found.{FindsState, FindsTrack, FindsTracks};
 
-use crate::numbers::read_number;
-use crate::table::{COORDINATE_RANGE, Number, TIME_RANGE};
+use crate::table::{DYNAMICS, LATER_STATES};
+use crate::values::{find_position, find_time};
+use crate::walk::walk;
+use spot_terms::StateList;
 use spot_tree::Tree;
+use std::alloc::{AllocError, Global};
 
-// Whether the first child of a name is a number in its range.
-fn has_number(tree: &Tree, e: u32, name: &str, number: &Number) -> bool
+// What is recorded of a state: its step, and x and y, exactly where it has a time and a position.
+fn find_state(tree: &Tree, e: u32) -> Option<(u32, i64, i64)>
     requires { e < length tree.now }
-    ensures { IsTrue result → HasNumber tree.now e name.now (number_of number.now) }
+    ensures { FindsState tree.now e result }
 {
-    match tree.child(e, name) {
-        Some(child) => read_number(tree.text(child), number).is_some(),
-        None => false,
-    }
-}
-
-// Whether the children `x` and `y` are coordinates.
-fn has_point(tree: &Tree, e: u32) -> bool
-    requires { e < length tree.now }
-    ensures { IsTrue result → HasPoint tree.now e coordinate }
-{
-    has_number(tree, e, "x", &COORDINATE_RANGE) && has_number(tree, e, "y", &COORDINATE_RANGE)
-}
-
-// Whether the position of a state is a point.
-fn has_position(tree: &Tree, e: u32) -> bool
-    requires { e < length tree.now }
-    ensures { IsTrue result → HasPosition tree.now e }
-{
-    let Some(position) = tree.child(e, "position") else {
-        return false;
+    let Some(position) = find_position(tree, e) else {
+        return None;
     };
-    match tree.child(position, "point") {
-        Some(point) => has_point(tree, point),
-        None => false,
+    match find_time(tree, e) {
+        Some(time) => Some((time, position.x, position.y)),
+        None => None,
     }
 }
 
-// Whether the time of a state is a step.
-fn has_time(tree: &Tree, e: u32) -> bool
+// What is recorded of a dynamic obstacle: its initial state, and the states of its first trajectory. There is none only where
+// something that is read of the obstacle isn't there.
+fn track_of(alloc: Global, tree: &Tree, e: u32) -> Result<Option<StateList>, AllocError>
     requires { e < length tree.now }
-    ensures { IsTrue result → HasExact tree.now e (codes "time") step_number }
+    ensures { IfOk result (λ found. FindsTrack tree.now e found) }
 {
-    match tree.child(e, "time") {
-        Some(time) => has_number(tree, time, "exact", &TIME_RANGE),
-        None => false,
+    let Some(start) = tree.child(e, "initialState") else {
+        return Ok(None);
+    };
+    let Some(first) = find_state(tree, start) else {
+        return Ok(None);
+    };
+    let states = walk(alloc, tree, LATER_STATES, &[e])?;
+    let mut recorded = vec![in alloc; first]?;
+    for state in &states {
+        let Some(next) = find_state(tree, *state) else {
+            return Ok(None);
+        };
+        recorded.push(next)?;
     }
+    Ok(Some(StateList::from_vec(recorded)))
 }
 
-// Whether a recorded state has all that is read of it.
-fn has_recorded(tree: &Tree, e: u32) -> bool
-    requires { e < length tree.now }
-    ensures { IsTrue result → HasRecorded tree.now e }
+/// What is recorded of each dynamic obstacle, in document order. There is none only where the tree isn't accepted.
+pub(crate) fn tracks_of(alloc: Global, tree: &Tree) -> Result<Option<Vec<StateList>>, AllocError>
+    ensures { IfOk result (λ found. FindsTracks tree.now (option_map (λ tracks. tracks.items) found)) }
 {
-    has_position(tree, e) && has_time(tree, e)
-}
-
-/// Whether each of these recorded states, which are below `len`, has all that is read of it.
-pub(crate) fn all_have_recorded(tree: &Tree, elements: &[u32]) -> bool
-    requires { All (λ e. e < length tree.now) elements.now }
-    ensures { IsTrue result → (e : ℕ) → Includes elements.now e → HasRecorded tree.now e }
-{
-    for e in elements {
-        if !has_recorded(tree, *e) {
-            return false;
-        }
+    prove!(0 < tree.len());
+    let elements = walk(alloc, tree, DYNAMICS, &[0])?;
+    let mut tracks = Vec::new(alloc);
+    for e in &elements {
+        let Some(track) = track_of(alloc, tree, *e)? else {
+            return Ok(None);
+        };
+        tracks.push(track)?;
     }
-    true
+    Ok(Some(tracks))
 }

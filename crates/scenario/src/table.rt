@@ -165,8 +165,7 @@ const MOVING_START: Path = &[Step::Each("dynamicObstacle"), Step::First("initial
 
 const PROBLEM_START: Path = &[Step::Each("planningProblem"), Step::First("initialState")];
 
-/// The states of the first trajectories of dynamic obstacles.
-pub(crate) const RECORDED: Path = &[
+const RECORDED: Path = &[
     Step::Each("dynamicObstacle"),
     Step::First("trajectory"),
     Step::Each("state"),

@@ -6,7 +6,7 @@ ghost use Rattle.spot_claims.specs.Profile.{angle, speed, step_number};
 ghost use Rattle.spot_claims.specs.Radii.{Holds, HoldsPt};
 ghost use Rattle.spot_claims.specs.Scenario.{HoldsExact, HoldsPosition};
 ghost use Rattle.scenario.specs.Table.{number_of};
-ghost use Rattle.scenario.specs.Found.{FindsNumber, FindsPoint};
+ghost use Rattle.scenario.specs.Found.{FindsNumber, FindsPoint, FindsExact, FindsPosition, FindsTime};
 ghost use Rattle.scenario.specs.Has.{HasNumber, HasPoint, HasExact, HasPosition};
 
 use crate::numbers::read_number;
@@ -68,6 +68,42 @@ pub(crate) fn point_at(tree: &Tree, e: u32, number: &Number) -> Pt
     }
 }
 
+// The number in `exact` in the first child of a name, exactly where there is one in its range.
+fn find_exact(tree: &Tree, e: u32, name: &str, number: &Number) -> Option<i64>
+    requires { e < length tree.now }
+    ensures { FindsExact tree.now e name.now (number_of number.now) result }
+{
+    match tree.child(e, name) {
+        Some(child) => find_number(tree, child, "exact", number),
+        None => None,
+    }
+}
+
+/// The point of the position of a state, exactly where there is one.
+pub(crate) fn find_position(tree: &Tree, e: u32) -> Option<Pt>
+    requires { e < length tree.now }
+    ensures { FindsPosition tree.now e result }
+{
+    let Some(position) = tree.child(e, "position") else {
+        return None;
+    };
+    match tree.child(position, "point") {
+        Some(point) => find_point(tree, point, &COORDINATE_RANGE),
+        None => None,
+    }
+}
+
+/// The time of a state, in steps, exactly where there is one.
+pub(crate) fn find_time(tree: &Tree, e: u32) -> Option<u32>
+    requires { e < length tree.now }
+    ensures { FindsTime tree.now e result }
+{
+    match find_exact(tree, e, "time", &TIME_RANGE) {
+        Some(time) => Some(time as u32),
+        None => None,
+    }
+}
+
 // The number in `exact` in the first child of a name.
 fn exact_at(tree: &Tree, e: u32, name: &str, number: &Number) -> i64
     requires inside { e < length tree.now }
@@ -75,8 +111,8 @@ fn exact_at(tree: &Tree, e: u32, name: &str, number: &Number) -> i64
     ensures holds { HoldsExact tree.now e name.now (number_of number.now).places result }
     ensures within { Within number.now.least number.now.most result }
 {
-    match tree.child(e, name) {
-        Some(child) => number_at(tree, child, "exact", number),
+    match find_exact(tree, e, name, number) {
+        Some(value) => value,
         None => unreachable!(),
     }
 }
@@ -89,11 +125,8 @@ pub(crate) fn position_at(tree: &Tree, e: u32) -> Pt
     ensures x_within { SizeAtMost MOST_COORDINATE result.x }
     ensures y_within { SizeAtMost MOST_COORDINATE result.y }
 {
-    let Some(position) = tree.child(e, "position") else {
-        unreachable!()
-    };
-    match tree.child(position, "point") {
-        Some(point) => point_at(tree, point, &COORDINATE_RANGE),
+    match find_position(tree, e) {
+        Some(point) => point,
         None => unreachable!(),
     }
 }
@@ -105,7 +138,10 @@ pub(crate) fn time_at(tree: &Tree, e: u32) -> u32
     ensures holds { HoldsExact tree.now e (codes "time") 0 (pos result) }
     ensures within { result ≤ MOST_TIME }
 {
-    exact_at(tree, e, "time", &TIME_RANGE) as u32
+    match find_time(tree, e) {
+        Some(time) => time,
+        None => unreachable!(),
+    }
 }
 
 /// The speed of a state, in millimetres a second.

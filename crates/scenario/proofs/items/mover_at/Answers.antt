@@ -11,4 +11,4 @@ returns-clause-is c =
     (held_in c.speed_at.result 200_000 c.speed_at.ensures.within (omega arith))
     (held_in c.angle_at.result 7_000_000 c.angle_at.ensures.within (omega arith))
     (sym c.id_at.ensures ∙ c.in-Some.is) c.kind_at.ensures (sym c.child.ensures.first ∙ c.in-Some-child.is) c.in_ok-radii.ensures.is (sym c.child-2.ensures.first ∙ c.in-Some-child-2.is)
-    c.position_at-position.ensures.holds c.speed_at.ensures.holds c.angle_at.ensures.holds c.time_at.ensures.holds c.in_ok-all_recorded.ensures
+    c.position_at-position.ensures.holds c.speed_at.ensures.holds c.angle_at.ensures.holds c.time_at.ensures.holds c.requires.track
