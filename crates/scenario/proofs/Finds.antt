@@ -1,25 +1,25 @@
 -- What is found where something may be missing or wrong.
-use Rattle.std.proofs.Common.{◌≡◌, ◌∙◌, ◌⊎◌, ◌↔◌, ℕ, ◌≤◌, ◌<◌, ◌^◌, ◌+◌, ℤ, List, length, take, get_or, Bool, true, false, not, is_some, IsTrue, Option, option_map, Some, None, refl, sym, ap, subst, arith, codes, nat_abs, ◌<ℤ◌, inl, inr, pos, neg_ℤ, drop, ◌∷◌}
+use Rattle.std.proofs.Common.{◌≡◌, ◌∙◌, ◌⊎◌, ◌↔◌, ℕ, ◌≤◌, ◌<◌, ◌^◌, ◌+◌, ℤ, List, length, get_or, Bool, true, false, not, is_some, IsTrue, Option, option_map, Some, None, refl, sym, ap, subst, arith, codes, nat_abs, ◌<ℤ◌, pos, neg_ℤ, drop, ◌∷◌}
 use mir.Val.{to_z, of_z}
 use mir.Syntax.{w64, w128}
 use Rattle.std.proofs.lemmas.Int.{ints}
 use Rattle.std.proofs.lemmas.List.{drop_more}
-use Rattle.spot_terms.proofs.ListLemmas.{pairwise_length, includes_taken}
+use Rattle.spot_terms.proofs.ListLemmas.{pairwise_length}
 use Rattle.spot_terms.proofs.Orders.{true_not_false}
 use Rattle.spot_terms.proofs.Unique.{some_one}
 use Rattle.spot_terms.specs.Decimal.{Reads}
 use Rattle.spot_terms.specs.Lists.{Pairwise, Includes}
 use Rattle.spot_terms.specs.declared.plain.Pt.{Pt}
 use Rattle.spot_terms.specs.declared.scenario.RawLane.{RawLane}
-use Rattle.spot_claims.specs.Tree.{Element, first_named, text_at}
+use Rattle.spot_claims.specs.Tree.{Element, first_named}
 use Rattle.spot_terms.specs.Whole.{Within, SizeAtMost}
 use Rattle.spot_claims.specs.Paths.{at_path, dynamics}
-use Rattle.spot_claims.specs.Profile.{Number, coordinate, step_number}
-use Rattle.spot_claims.specs.Scenario.{IsPair, bound_points, HoldsExact, HoldsPosition}
-use Rattle.scenario.specs.Has.{IsGood, HasNumber, HasPoint, HasPoints, HasLane, HasExact, HasPosition, HasRecorded, HasMover, AllRecorded, AllBounds}
-use Rattle.scenario.specs.Found.{SaysNumber, ReadsNumber, FindsNumber, FindsPoint, ArePointsAt, FindsPoints, IsWholeLane, FindsLane, FindsLanes, FindsPosition, IsPositionAt, FindsExact, IsExactAt, IsTimeAt, IsStateAt, HasStates, FindsTrack, IsWholeTrack}
+use Rattle.spot_claims.specs.Profile.{Number, coordinate}
+use Rattle.spot_claims.specs.Scenario.{IsPair, bound_points}
+use Rattle.scenario.specs.Has.{IsGood, HasPoint, HasLane, HasMover, AllRecorded, AllBounds}
+use Rattle.scenario.specs.Found.{SaysNumber, FindsPoint, ArePointsAt, FindsPoints, IsWholeLane, FindsLane, FindsLanes, FindsPosition, HasStates, FindsTrack, IsWholeTrack}
 use Rattle.scenario.proofs.Accepts.{from_one}
-use Rattle.scenario.proofs.Readings.{good_ok, within_ok, outside_ok, held_in, held_less, step_held}
+use Rattle.scenario.proofs.Readings.{good_ok, within_ok, outside_ok, held_less}
 
 -- ---- numbers
 
@@ -35,21 +35,10 @@ pub past_ok : (n : Number) (text : List ℕ) (places : ℕ) (z : ℤ) (b : Bool)
     → (IsTrue b ↔ ((to_z w128 (of_z w128 z) <ℤ n.least) ⊎ (n.most <ℤ to_z w128 (of_z w128 z)))) → b ≡ true → IsGood n text → ⊥
 past_ok n text places z b e short h few past out good = good.fits ((outside_ok n text places z b e short h few past).0 out)
 
--- what a text says is the number of the child that has it
-pub number_found : (tree : List Element) (e : ℕ) (name : List ℕ) (n : Number) (child : ℕ) (text : List ℕ) (o : Option ℤ) → first_named tree name e ≡ Some child → text ≡ text_at tree child → ReadsNumber n text o → FindsNumber tree e name n o
-number_found tree e name n child text None is same h = λ has.
-    let c : has.child ≡ child = some_one (first_named tree name e) has.child child has.child_is is in
-    let P : List ℕ → Type 0 = λ t. IsGood n t in
-    h (subst P (ap (text_at tree) c ∙ sym same) has.good)
-number_found tree e name n child text (Some z) is same h =
-    let P : List ℕ → Type 0 = λ t. IsGood n t in
-    let Q : List ℕ → Type 0 = λ t. Reads n.places t z in
-    record { has = record { child = child; child_is = is; good = subst P same h.good }; holds = (child, is, subst Q same h.reads); within = h.within }
-
-pub no_number : (tree : List Element) (e : ℕ) (name : List ℕ) (n : Number) → first_named tree name e ≡ None → HasNumber tree e name n → ⊥
-no_number tree e name n none has = let is = has.child_is in cc
-
 -- ---- points
+
+pub some_points : (tree : List Element) (es : List ℕ) (o : Option (List (ℤ × ℤ))) (points : List (ℤ × ℤ)) → o ≡ Some points → FindsPoints tree es o → ArePointsAt tree es points
+some_points tree es o points e h = let P : Option (List (ℤ × ℤ)) → Type 0 = λ x. FindsPoints tree es x in subst P e h
 
 -- ---- states
 
@@ -70,59 +59,11 @@ position_found tree e p q (Some r) is at h = record {
   y_within = size_within 10_000_000_000_000 r.y h.y_within;
 }
 
-pub no_position : (tree : List Element) (e : ℕ) → first_named tree (codes "position") e ≡ None → HasPosition tree e → ⊥
-no_position tree e none has = let is = has.position_is in cc
-
-pub no_place : (tree : List Element) (e p : ℕ) → first_named tree (codes "position") e ≡ Some p → first_named tree (codes "point") p ≡ None → HasPosition tree e → ⊥
-no_place tree e p is none has =
-    let P : ℕ → Type 0 = λ c. first_named tree (codes "point") c ≡ Some has.point in
-    let at : first_named tree (codes "point") p ≡ Some has.point = subst P (some_one (first_named tree (codes "position") e) has.position p has.position_is is) has.point_is in cc
-
-pub exact_found : (tree : List Element) (e : ℕ) (name : List ℕ) (n : Number) (child : ℕ) (o : Option ℤ) → first_named tree name e ≡ Some child → FindsNumber tree child (codes "exact") n o → FindsExact tree e name n o
-exact_found tree e name n child None is h = λ has.
-    let P : ℕ → Type 0 = λ c. HasNumber tree c (codes "exact") n in
-    h (subst P (some_one (first_named tree name e) has.child child has.child_is is) has.exact)
-exact_found tree e name n child (Some z) is h = record { has = record { child = child; child_is = is; exact = h.has }; holds = (child, is, h.holds); within = h.within }
-
-pub no_exact : (tree : List Element) (e : ℕ) (name : List ℕ) (n : Number) → first_named tree name e ≡ None → HasExact tree e name n → ⊥
-no_exact tree e name n none has = let is = has.child_is in cc
-
-pub time_found : (tree : List Element) (e t : ℕ) (z : ℤ) → t ≡ nat_abs (to_z w64 (of_z w64 z)) → IsExactAt tree e (codes "time") step_number z → IsTimeAt tree e t
-time_found tree e t z same h =
-    let P : ℤ → Type 0 = λ y. HoldsExact tree e (codes "time") 0 y in
-    let held : pos t ≡ z = ap pos same ∙ step_held z h.within in
-    record { has = h.has; holds = subst P (sym held) h.holds; few = few_of t z held h.within }
-  where
-    few_of : (t : ℕ) (z : ℤ) → pos t ≡ z → Within (pos 0) (pos 1_000_000) z → t ≤ 1_000_000
-    few_of t z e w = let high = w.high in omega (arith, ints, e, high)
-
-pub small_enough : (z : ℤ) → SizeAtMost 10_000_000_000_000 z → to_z w64 (of_z w64 z) ≡ z
-small_enough z few = held_in z 10_000_000_000_000 few (omega arith)
-
-pub state_found : (tree : List Element) (e t : ℕ) (p : Pt) (r : ℕ × ℤ × ℤ) → r.0 ≡ t → r.1 ≡ p.x → r.2 ≡ p.y → IsTimeAt tree e t → IsPositionAt tree e p → IsStateAt tree e r
-state_found tree e t p r et ex ey time at =
-    let T : ℕ → Type 0 = λ k. HoldsExact tree e (codes "time") 0 (pos k) in
-    let X : ℤ → Type 0 = λ z. HoldsPosition tree e z r.2 in
-    let Y : ℤ → Type 0 = λ z. HoldsPosition tree e p.x z in
-    record { has = record { position = at.has; time = time.has }; is = (subst T (sym et) time.holds, subst X (sym ex) (subst Y (sym ey) at.holds)) }
-
-pub states_more : (tree : List Element) (es : List ℕ) (i : ℕ) → i < length es → ((n : ℕ) → Includes (take i es) n → HasRecorded tree n) → HasRecorded tree (get_or es i 0) → (n : ℕ) → Includes (take (i + 1) es) n → HasRecorded tree n
-states_more tree es i h has at = λ n listed. elim (includes_taken es i 0 n h listed) [
-  | inl l ↦ has n l
-  | inr s ↦ let P : ℕ → Type 0 = λ x. HasRecorded tree x in subst P (sym s) at
-]
-
 pub some_track : (tree : List Element) (e : ℕ) (o : Option (List (ℕ × ℤ × ℤ))) (states : List (ℕ × ℤ × ℤ)) → o ≡ Some states → FindsTrack tree e o → IsWholeTrack tree e states
 some_track tree e o states same h = let P : Option (List (ℕ × ℤ × ℤ)) → Type 0 = λ x. FindsTrack tree e x in subst P same h
 
 pub no_track : (tree : List Element) (e : ℕ) (o : Option (List (ℕ × ℤ × ℤ))) → o ≡ None → FindsTrack tree e o → HasMover tree e → ⊥
 no_track tree e o same h = let P : Option (List (ℕ × ℤ × ℤ)) → Type 0 = λ x. FindsTrack tree e x in subst P same h
-
-pub tracks_more : (tree : List Element) (es : List ℕ) (i : ℕ) → i < length es → ((e : ℕ) → Includes (take i es) e → HasStates tree e) → HasStates tree (get_or es i 0) → (e : ℕ) → Includes (take (i + 1) es) e → HasStates tree e
-tracks_more tree es i h has at = λ e listed. elim (includes_taken es i 0 e h listed) [
-  | inl l ↦ has e l
-  | inr s ↦ let P : ℕ → Type 0 = λ x. HasStates tree x in subst P (sym s) at
-]
 
 -- all states that are recorded are states of obstacles
 pub all_recorded : (tree : List Element) → ((e : ℕ) → Includes (at_path tree dynamics) e → HasStates tree e) → AllRecorded tree
@@ -136,15 +77,6 @@ next_left R es i d t ts rest h p same =
     let Q : List _ → Type 0 = λ l. Pairwise R (get_or es i d ∷ drop (i + 1) es) l in
     let k : Pairwise R (get_or es i d ∷ drop (i + 1) es) (t ∷ rest) = subst Q same (subst P (drop_more es i d h) p) in
     (k.0, k.1)
-
-pub points_more : (tree : List Element) (es : List ℕ) (i : ℕ) → i < length es → HasPoints tree (take i es) → HasPoint tree (get_or es i 0) coordinate → HasPoints tree (take (i + 1) es)
-points_more tree es i h has at = λ n listed. elim (includes_taken es i 0 n h listed) [
-  | inl l ↦ has n l
-  | inr s ↦ let P : ℕ → Type 0 = λ x. HasPoint tree x coordinate in subst P (sym s) at
-]
-
-pub some_points : (tree : List Element) (es : List ℕ) (o : Option (List (ℤ × ℤ))) (points : List (ℤ × ℤ)) → o ≡ Some points → FindsPoints tree es o → ArePointsAt tree es points
-some_points tree es o points e h = let P : Option (List (ℤ × ℤ)) → Type 0 = λ x. FindsPoints tree es x in subst P e h
 
 -- ---- lanelets
 

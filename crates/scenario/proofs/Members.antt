@@ -3,7 +3,7 @@ use Rattle.std.proofs.Common.{◌≡◌, ◌∙◌, ◌⊎◌, inl, inr, ℕ, ze
 use Rattle.std.specs.List.{AllByRecursion, filter, filter_map, list_any, list_all, find}
 use Rattle.std.proofs.lemmas.List.{take_more, take_all}
 use Rattle.spot_terms.specs.Lists.{Includes, At, Pairwise}
-use Rattle.spot_terms.proofs.ListLemmas.{includes_back, includes_either, includes_map, pairwise_push}
+use Rattle.spot_terms.proofs.ListLemmas.{includes_back, includes_either, includes_map, includes_taken, pairwise_push}
 
 pub in_last : {X : Type 0} (xs : List X) (x : X) → Includes (xs ++ x ∷ []) x
 in_last xs x = includes_back xs (x ∷ []) x (inl refl)
@@ -112,6 +112,9 @@ first_in (y ∷ ys) x e = inl (let s : y ≡ x = cc in sym s)
 
 pub found_in : {X : Type 0} (p : X → Bool) (xs : List X) (x : X) → find p xs ≡ Some x → Includes (filter p xs) x
 found_in p xs x e = first_in (filter p xs) x (sym (find_first p xs) ∙ e)
+
+pub each_taken : {X : Type 0} (P : X → Type 0) (xs : List X) (i : ℕ) (d : X) → i < length xs → ((x : X) → Includes (take i xs) x → P x) → P (get_or xs i d) → (x : X) → Includes (take (i + 1) xs) x → P x
+each_taken P xs i d h before at = λ x listed. elim (includes_taken xs i d x h listed) [ inl l ↦ before x l | inr s ↦ subst P (sym s) at ]
 
 -- ---- two lists in step
 

@@ -198,10 +198,8 @@ pub(crate) fn lanes_of(
     prove!(0 < tree.len());
     let mut lanes = IndexMap::new(alloc);
     for e in tree.children(0) {
-        if tree.name(*e) == "lanelet" {
-            if !add_lane(alloc, tree, *e, &mut lanes)? {
-                return Ok(None);
-            }
+        if tree.name(*e) == "lanelet" && !add_lane(alloc, tree, *e, &mut lanes)? {
+            return Ok(None);
         }
     }
     Ok(Some(lanes))

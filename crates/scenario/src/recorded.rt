@@ -15,13 +15,9 @@ fn find_state(tree: &Tree, e: u32) -> Option<(u32, i64, i64)>
     requires { e < length tree.now }
     ensures { FindsState tree.now e result }
 {
-    let Some(position) = find_position(tree, e) else {
-        return None;
-    };
-    match find_time(tree, e) {
-        Some(time) => Some((time, position.x, position.y)),
-        None => None,
-    }
+    let position = find_position(tree, e)?;
+    let time = find_time(tree, e)?;
+    Some((time, position.x, position.y))
 }
 
 // What is recorded of a dynamic obstacle: its initial state, and the states of its first trajectory. There is none only where

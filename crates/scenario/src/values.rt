@@ -19,10 +19,8 @@ fn find_number(tree: &Tree, e: u32, name: &str, number: &Number) -> Option<i64>
     requires { e < length tree.now }
     ensures { FindsNumber tree.now e name.now (number_of number.now) result }
 {
-    match tree.child(e, name) {
-        Some(child) => read_number(tree.text(child), number),
-        None => None,
-    }
+    let child = tree.child(e, name)?;
+    read_number(tree.text(child), number)
 }
 
 /// The point in the children `x` and `y`, exactly where both are there and in their range.
@@ -31,13 +29,10 @@ pub(crate) fn find_point(tree: &Tree, e: u32, number: &Number) -> Option<Pt>
     requires micro { (number_of number.now).places ≡ 6 }
     ensures { FindsPoint tree.now e (number_of number.now) result }
 {
-    let Some(x) = find_number(tree, e, "x", number) else {
-        return None;
-    };
-    match find_number(tree, e, "y", number) {
-        Some(y) => Some(Pt { x, y }),
-        None => None,
-    }
+    Some(Pt {
+        x: find_number(tree, e, "x", number)?,
+        y: find_number(tree, e, "y", number)?,
+    })
 }
 
 /// The number in the first child of a name.
@@ -73,10 +68,8 @@ fn find_exact(tree: &Tree, e: u32, name: &str, number: &Number) -> Option<i64>
     requires { e < length tree.now }
     ensures { FindsExact tree.now e name.now (number_of number.now) result }
 {
-    match tree.child(e, name) {
-        Some(child) => find_number(tree, child, "exact", number),
-        None => None,
-    }
+    let child = tree.child(e, name)?;
+    find_number(tree, child, "exact", number)
 }
 
 /// The point of the position of a state, exactly where there is one.
@@ -84,13 +77,9 @@ pub(crate) fn find_position(tree: &Tree, e: u32) -> Option<Pt>
     requires { e < length tree.now }
     ensures { FindsPosition tree.now e result }
 {
-    let Some(position) = tree.child(e, "position") else {
-        return None;
-    };
-    match tree.child(position, "point") {
-        Some(point) => find_point(tree, point, &COORDINATE_RANGE),
-        None => None,
-    }
+    let position = tree.child(e, "position")?;
+    let point = tree.child(position, "point")?;
+    find_point(tree, point, &COORDINATE_RANGE)
 }
 
 /// The time of a state, in steps, exactly where there is one.
@@ -98,10 +87,8 @@ pub(crate) fn find_time(tree: &Tree, e: u32) -> Option<u32>
     requires { e < length tree.now }
     ensures { FindsTime tree.now e result }
 {
-    match find_exact(tree, e, "time", &TIME_RANGE) {
-        Some(time) => Some(time as u32),
-        None => None,
-    }
+    let time = find_exact(tree, e, "time", &TIME_RANGE)?;
+    Some(time as u32)
 }
 
 // The number in `exact` in the first child of a name.

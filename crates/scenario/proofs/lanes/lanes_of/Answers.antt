@@ -11,7 +11,7 @@ use Rattle.scenario.proofs.Members.{item_in}
 use Rattle.scenario.proofs.Rises.{IsLanelet, fresh_lane, lanes_more, lanes_same, ranges_more, lanes_end, lanelet_in, filter_in, bounds_more, bounds_end}
 use Rattle.spot_terms.proofs.Orders.{true_not_false}
 use Rattle.scenario.proofs.lanes.lanes_of.Goals as goal
-use Rattle.scenario.proofs.lanes.lanes_of.Goals.{then-eq+in_ok-add_lane+else-not-branch, else-eq}
+use Rattle.scenario.proofs.lanes.lanes_of.Goals.{else-eq-via-then-eq+in_ok-add_lane+else-not-branch, else-eq-via-else-eq}
 
 pub loop-e-init : goal.loop-e-init
 loop-e-init c =
@@ -31,17 +31,17 @@ returns-then-not-branch c = λ ok.
     c.in_ok-add_lane.ensures.not (ap Ok c.if-not-branch.true) (has_lane c.args.tree.now ok e here) (λ i has. fresh_lane c.args.tree.now ok c.children-e-items.result.now c.loop-e.e-index i c.loop-e.lanes.entries inside c.children-e-items.ensures.rising c.loop-e-test.true called here has c.loop-e.invariant.are)
 
 pub loop-e-preserved : goal.loop-e-preserved
-loop-e-preserved c = elim c.if-eq.branch [
-  | then-eq+in_ok-add_lane+else-not-branch w ↦
+loop-e-preserved c = elim c.else-eq.branch [
+  | else-eq-via-then-eq+in_ok-add_lane+else-not-branch w ↦
       let called = ap (λ n. bytes_eq n (codes "lanelet")) (sym c.name.ensures) ∙ (sym c.eq.ensures ∙ w.if-eq.true) in
       let P : List (ℕ × RawLane) → Type 0 = λ es. AddsLane c.args.tree.now (get_or c.children-e-items.result.now c.loop-e.e-index 0) c.loop-e.lanes.entries es in
       let adds = subst P (sym (ap (λ m. m.entries) w.lanes-is)) (w.in_ok-add_lane.ensures.added (ap Ok w.if-not-branch.false)) in
       record {
         has = bounds_more c.args.tree.now c.children-e-items.result.now c.loop-e.e-index c.loop-e-test.true (λ t. adds.has) c.loop-e.invariant.has;
-        are = lanes_more c.args.tree.now c.children-e-items.result.now c.loop-e.e-index c.loop-e.lanes.entries c.if-eq.lanes.entries c.loop-e-test.true called adds c.loop-e.invariant.are;
-        within = ranges_more c.args.tree.now (get_or c.children-e-items.result.now c.loop-e.e-index 0) c.loop-e.lanes.entries c.if-eq.lanes.entries adds c.loop-e.invariant.within;
+        are = lanes_more c.args.tree.now c.children-e-items.result.now c.loop-e.e-index c.loop-e.lanes.entries c.else-eq.lanes.entries c.loop-e-test.true called adds c.loop-e.invariant.are;
+        within = ranges_more c.args.tree.now (get_or c.children-e-items.result.now c.loop-e.e-index 0) c.loop-e.lanes.entries c.else-eq.lanes.entries adds c.loop-e.invariant.within;
       }
-  | else-eq w ↦
+  | else-eq-via-else-eq w ↦
       let called = ap (λ n. bytes_eq n (codes "lanelet")) (sym c.name.ensures) ∙ (sym c.eq.ensures ∙ w.if-eq.false) in
       let same = sym (ap (λ m. m.entries) w.lanes-is) in
       let P : List (ℕ × RawLane) → Type 0 = λ es. Pairwise (IsLane c.args.tree.now) (filter (IsLanelet c.args.tree.now) (take (c.loop-e.e-index + 1) c.children-e-items.result.now)) es in

@@ -3,8 +3,7 @@ use Rattle.spot_terms.specs.Lists.{Includes, Pairwise}
 use Rattle.spot_claims.specs.Scenario.{IsRecorded, recorded_of}
 use Rattle.scenario.specs.Has.{HasRecorded, later_states}
 use Rattle.scenario.proofs.Facts.{one_child}
-use Rattle.scenario.proofs.Finds.{states_more}
-use Rattle.scenario.proofs.Members.{item_in, pair_behind}
+use Rattle.scenario.proofs.Members.{item_in, each_taken, pair_behind}
 use Rattle.scenario.proofs.recorded.track_of.Goals as goal
 
 pub returns-in_default-find_state-2 : goal.returns-in_default-find_state-2
@@ -17,7 +16,7 @@ pub loop-state-preserved : goal.loop-state-preserved
 loop-state-preserved c =
     let at = c.in-Some-find_state-2.ensures in
     record {
-      has = states_more c.args.tree.now c.deref-state-items.result.now c.loop-state.state-index c.loop-state-test.true c.loop-state.invariant.has at.has;
+      has = each_taken (λ n. HasRecorded c.args.tree.now n) c.deref-state-items.result.now c.loop-state.state-index 0 c.loop-state-test.true c.loop-state.invariant.has at.has;
       are = pair_behind (IsRecorded c.args.tree.now) c.in-Some.start c.deref-state-items.result.now c.loop-state.recorded.items c.push.new.self.items c.loop-state.state-index 0 c.in-Some-find_state-2.next c.loop-state-test.true c.in_ok-push.ensures.items c.loop-state.invariant.are at.is;
     }
 

@@ -2,8 +2,8 @@ use Rattle.std.proofs.Common.{ℕ, get_or, List, subst, ◌∙◌, arith, take_a
 use Rattle.spot_terms.specs.Lists.{Includes, Pairwise}
 use Rattle.scenario.specs.Found.{IsTrack, HasStates}
 use Rattle.scenario.proofs.Accepts.{has_mover}
-use Rattle.scenario.proofs.Finds.{some_track, no_track, tracks_more, all_recorded}
-use Rattle.scenario.proofs.Members.{item_in, pair_taken}
+use Rattle.scenario.proofs.Finds.{some_track, no_track, all_recorded}
+use Rattle.scenario.proofs.Members.{item_in, each_taken, pair_taken}
 use Rattle.scenario.proofs.recorded.tracks_of.Goals as goal
 
 pub returns-in_default : goal.returns-in_default
@@ -16,7 +16,7 @@ pub loop-e-preserved : goal.loop-e-preserved
 loop-e-preserved c =
     let track = some_track c.args.tree.now (get_or c.deref-e-items.result.now c.loop-e.e-index 0) c.in_ok-track.field-0 c.in-Some.track c.in-Some.is c.in_ok-track.ensures in
     record {
-      has = tracks_more c.args.tree.now c.deref-e-items.result.now c.loop-e.e-index c.loop-e-test.true c.loop-e.invariant.has track.has;
+      has = each_taken (λ e. HasStates c.args.tree.now e) c.deref-e-items.result.now c.loop-e.e-index 0 c.loop-e-test.true c.loop-e.invariant.has track.has;
       are = pair_taken (IsTrack c.args.tree.now) c.deref-e-items.result.now c.loop-e.tracks.items c.push.new.self.items c.loop-e.e-index 0 c.in-Some.track c.loop-e-test.true c.in_ok-push.ensures.items c.loop-e.invariant.are track.is;
     }
 
