@@ -14,12 +14,12 @@ use Rattle.spot_terms.specs.declared.scenario.RawLane.{RawLane}
 use Rattle.spot_claims.specs.Tree.{Element, first_named}
 use Rattle.spot_terms.specs.Whole.{Within, SizeAtMost}
 use Rattle.spot_claims.specs.Paths.{at_path, dynamics}
-use Rattle.spot_claims.specs.Profile.{Number, coordinate}
-use Rattle.spot_claims.specs.Scenario.{IsPair, bound_points}
+use Rattle.spot_claims.specs.Profile.{Number, coordinate, step_number}
+use Rattle.spot_claims.specs.Scenario.{IsPair, bound_points, HoldsExact}
 use Rattle.scenario.specs.Has.{IsGood, HasPoint, HasLane, HasMover, AllRecorded, AllBounds}
-use Rattle.scenario.specs.Found.{SaysNumber, FindsPoint, ArePointsAt, FindsPoints, IsWholeLane, FindsLane, FindsLanes, FindsPosition, HasStates, FindsTrack, IsWholeTrack}
+use Rattle.scenario.specs.Found.{SaysNumber, FindsPoint, ArePointsAt, FindsPoints, IsWholeLane, FindsLane, FindsLanes, FindsPosition, IsExactAt, IsTimeAt, HasStates, FindsTrack, IsWholeTrack}
 use Rattle.scenario.proofs.Accepts.{from_one}
-use Rattle.scenario.proofs.Readings.{good_ok, within_ok, outside_ok, held_less}
+use Rattle.scenario.proofs.Readings.{good_ok, within_ok, outside_ok, held_less, step_held}
 
 -- ---- numbers
 
@@ -58,6 +58,15 @@ position_found tree e p q (Some r) is at h = record {
   x_within = size_within 10_000_000_000_000 r.x h.x_within;
   y_within = size_within 10_000_000_000_000 r.y h.y_within;
 }
+
+pub time_found : (tree : List Element) (e t : ℕ) (z : ℤ) → t ≡ nat_abs (to_z w64 (of_z w64 z)) → IsExactAt tree e (codes "time") step_number z → IsTimeAt tree e t
+time_found tree e t z same h =
+    let P : ℤ → Type 0 = λ y. HoldsExact tree e (codes "time") 0 y in
+    let held : pos t ≡ z = ap pos same ∙ step_held z h.within in
+    record { has = h.has; holds = subst P (sym held) h.holds; few = few_of t z held h.within }
+  where
+    few_of : (t : ℕ) (z : ℤ) → pos t ≡ z → Within (pos 0) (pos 1_000_000) z → t ≤ 1_000_000
+    few_of t z e w = let high = w.high in omega (arith, ints, e, high)
 
 pub some_track : (tree : List Element) (e : ℕ) (o : Option (List (ℕ × ℤ × ℤ))) (states : List (ℕ × ℤ × ℤ)) → o ≡ Some states → FindsTrack tree e o → IsWholeTrack tree e states
 some_track tree e o states same h = let P : Option (List (ℕ × ℤ × ℤ)) → Type 0 = λ x. FindsTrack tree e x in subst P same h
