@@ -1,5 +1,5 @@
 -- Which cells hold a point.
-use Rattle.std.proofs.Common.{◌≡◌, ℕ, ◌<◌, ◌≤◌, List, length, subst, sym, arith}
+use Rattle.std.proofs.Common.{◌≡◌, ℕ, ◌<◌, ◌≤◌, List, length, min, subst, sym, arith}
 use Rattle.std.specs.List.{AllByRecursion}
 use Rattle.std.proofs.lemmas.Option.{slice_get-get_or}
 use Rattle.std.specs.Prelude.{◌↔◌, Some, slice_get, slice_index_or}
@@ -9,7 +9,7 @@ use Rattle.spot_terms.specs.Lists.{Pairwise, Lists}
 use Rattle.spot_terms.specs.declared.plain.Pt.{Pt}
 use Rattle.spot_terms.proofs.Hulls.{hull_to_points, hull_to_corners}
 use Rattle.lanelets.specs.declared.cell.Placed.{Placed}
-use Rattle.lanelets.specs.Holding.{HoldsAt}
+use Rattle.lanelets.specs.Holding.{HoldsAt, HoldsBelow}
 use Rattle.spot_terms.specs.Routes.{IsStartCell}
 use Rattle.spot_terms.proofs.Places.{all_map}
 use Rattle.convex_poly.specs.Polygons.{IsPosition}
@@ -28,8 +28,14 @@ holds_read made p k x low =
     let at : slice_get made k ≡ Some (slice_index_or made k x) = slice_get-get_or made k x low in
     ((λ h. subst (λ (y : Placed). InHull y.cell.poly p) (same_at made k h.0 (slice_index_or made k x) h.1 at) h.2), (λ h. (slice_index_or made k x, at, h)))
 
-pub holding_all : (made : List Placed) (p : Pt) (n : ℕ) (xs : List ℕ) → length made ≤ n → Lists (λ k. (k < n) × HoldsAt made p k) xs → Lists (HoldsAt made p) xs
-holding_all made p n xs h = lists_as (λ k. (k < n) × HoldsAt made p k) (HoldsAt made p) xs (λ k q. q.1) (λ k q. (let low = got_below made k q.0 q.1 in omega (arith, low, h), q))
+-- those below a number are also those below a greater one where there are no cells between
+pub holding_up : (made : List Placed) (p : Pt) (n m : ℕ) (xs : List ℕ) → n ≡ min m (length made) → Lists (HoldsBelow made p n) xs → Lists (HoldsBelow made p m) xs
+holding_up made p n m xs e = lists_as (HoldsBelow made p n) (HoldsBelow made p m) xs
+    (λ k q. (let low = q.0 in omega (arith, e, low), q.1))
+    (λ k q. (let low = q.0 in let inside = got_below made k q.1.0 q.1.1 in omega (arith, e, low, inside), q.1))
+
+pub holding_all : (made : List Placed) (p : Pt) (n : ℕ) (xs : List ℕ) → length made ≤ n → Lists (HoldsBelow made p n) xs → Lists (HoldsAt made p) xs
+holding_all made p n xs h = lists_as (HoldsBelow made p n) (HoldsAt made p) xs (λ k q. q.1) (λ k q. (let low = got_below made k q.0 q.1 in omega (arith, low, h), q))
 
 -- the cells that are kept hold a point where those that are defined do
 pub holding_is : (lanes : List Lane) (made : List Placed) (p : Pt) (xs : List ℕ) → Pairwise (IsPlaced lanes) (cells lanes) made → Lists (HoldsAt made p) xs → Lists (IsStartCell lanes p) xs

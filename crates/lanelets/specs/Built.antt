@@ -5,24 +5,24 @@ use Rattle.std.specs.List.{AllByRecursion}
 use Rattle.spot_terms.specs.Cells.{Lane, NetCell, cells}
 use Rattle.spot_terms.specs.Lists.{Pairwise}
 use Rattle.spot_terms.specs.Network.{IsAhead}
+use Rattle.lanelets.specs.declared.boxes.CellBoxes.{CellBoxes}
 use Rattle.lanelets.specs.declared.cell.Cell.{Cell}
 use Rattle.lanelets.specs.declared.cell.Placed.{Placed}
 use Rattle.lanelets.specs.declared.classes.Classes.{Classes}
 use Rattle.lanelets.specs.declared.kept.KeptLane.{KeptLane}
-use Rattle.convex_poly.specs.declared.boxes.BoundingBox.{BoundingBox}
 use Rattle.lanelets.specs.Beside.{AreClasses}
 use Rattle.lanelets.specs.Kept.{IsKept}
 use Rattle.lanelets.specs.Listing.{AreLists}
 use Rattle.lanelets.specs.Steps.{IsInside}
 use Rattle.lanelets.specs.Made.{IsCellOf, IsPlaced, source_of}
-use Rattle.lanelets.specs.Boxes.{AreBoxes}
+use Rattle.lanelets.specs.Boxes.{AreCellBoxes}
 
 -- its cells, with the boxes round them, those ahead of each and their classes, and its lanelets
-pub record IsBuilt (lanes : List Lane) (made : List Placed) (boxes : List BoundingBox) (kept : List KeptLane) (next : List (List ℕ)) (classes : Classes) : Type 0 where
+pub record IsBuilt (lanes : List Lane) (made : List Placed) (boxes : CellBoxes) (kept : List KeptLane) (next : List (List ℕ)) (classes : Classes) : Type 0 where
   pub few : length (cells lanes) ≤ MOST_CELLS
   pub placed : Pairwise (IsPlaced lanes) (cells lanes) made
   pub inside : AllByRecursion (λ (p : Placed). IsInside (length lanes) p.origin) made
-  pub boxes_are : AreBoxes made boxes
+  pub boxes_are : AreCellBoxes made boxes
   pub kept_is : Pairwise IsKept lanes kept
   pub ahead : AreLists (IsAhead lanes (cells lanes)) (length (cells lanes)) next
   pub beside : AreClasses lanes (cells lanes) classes

@@ -10,7 +10,7 @@ ghost use Rattle.lanelets.specs.Links.{AreLinks};
 ghost use Rattle.lanelets.specs.Made.{IsPlaced};
 
 use crate::ahead::ahead_of;
-use crate::boxes::boxes_of;
+use crate::boxes::cell_boxes;
 use crate::bridges::add_bridges;
 use crate::cell::Placed;
 use crate::classes::classes_of;
@@ -63,7 +63,7 @@ fn network_of(
     let ahead = ahead_of(alloc, lanes, links, &cells)?;
     let nearby = nearby_of(alloc, lanes, &cells)?;
     let classes = classes_of(alloc, &cells, &kept, &nearby)?;
-    let boxes = boxes_of(alloc, cells.list())?;
+    let boxes = cell_boxes(alloc, cells.list())?;
     Ok(Network::of(lanes, cells, boxes, kept, ahead, classes))
 }
 

@@ -2,13 +2,13 @@
 
 ghost use Rattle.spot_terms.specs.Cells.{cells};
 
+use crate::boxes::CellBoxes;
 use crate::cell::Cell;
 use crate::classes::Classes;
 use crate::kept::{KeptLane, are_side_cells};
 use crate::numbers::{Numbers, has_number, list_at};
 use crate::placed::PlacedCells;
 use crate::search::{CellList, cells_holding};
-use convex_poly::BoundingBox;
 use indexmap::IndexMap;
 use spot_terms::{Pt, RawLane};
 use std::alloc::{AllocError, Global};
@@ -20,7 +20,7 @@ use std::snapshot::Snapshot;
 pub struct Network {
     built_from: Snapshot<IndexMap<u32, RawLane>>,
     cells: PlacedCells,
-    boxes: Vec<BoundingBox>,
+    boxes: CellBoxes,
     lanes: Vec<KeptLane>,
     ahead: Vec<Numbers>,
     classes: Classes,
@@ -35,7 +35,7 @@ impl Model for Network {
 
     ghost view = { λ n. n.built_from.value.entries };
 
-    ghost invariant = { λ n. IsBuilt n.built_from.value.entries n.cells n.boxes.items n.lanes.items n.ahead.items n.classes };
+    ghost invariant = { λ n. IsBuilt n.built_from.value.entries n.cells n.boxes n.lanes.items n.ahead.items n.classes };
 }
 
 impl Network {
@@ -52,12 +52,12 @@ impl Network {
     pub(crate) fn of(
         lanes: &IndexMap<u32, RawLane>,
         cells: PlacedCells,
-        boxes: Vec<BoundingBox>,
+        boxes: CellBoxes,
         kept: Vec<KeptLane>,
         ahead: Vec<Numbers>,
         classes: Classes,
     ) -> Network
-        requires { IsBuilt lanes.now.entries cells boxes.items kept.items ahead.items classes }
+        requires { IsBuilt lanes.now.entries cells boxes kept.items ahead.items classes }
         ensures { result ≡ lanes.now.entries }
     {
         Network {

@@ -83,6 +83,27 @@ pub(crate) const CASES: &[Case] = &[
         sides: &[(0, 1, true), (1, 0, true), (0, 0, false)],
     },
     Case {
+        name: "300 m are cut into 150 cells, and points are found in the first, between two, in the last, and in none",
+        first: LaneRow {
+            left: &[(0, 4_000_000), (300_000_000, 4_000_000)],
+            right: &[(0, 0), (300_000_000, 0)],
+            successors: &[],
+            sides: &[],
+        },
+        second: None,
+        count: 150,
+        cells: &[],
+        points: &[
+            ((1_000_000, 2_000_000), &[0]),
+            ((128_000_000, 2_000_000), &[63, 64]),
+            ((300_000_000, 4_000_000), &[149]),
+            ((300_000_001, 2_000_000), &[]),
+        ],
+        ahead: &[],
+        steps: &[],
+        sides: &[],
+    },
+    Case {
         name: "between a lanelet and one that follows it after a gap there is a bridge",
         first: LaneRow {
             left: &[(0, 4_000_000), (2_000_000, 4_000_000)],

@@ -1,45 +1,23 @@
-use Rattle.std.proofs.Common.{◌+◌, ℕ, List, length, refl, ap, subst, arith}
-use Rattle.std.specs.Prelude.{◌↔◌, slice_index_or}
-use Rattle.spot_terms.specs.Hull.{InHull}
-use Rattle.lanelets.specs.declared.cell.Placed.{Placed}
-use Rattle.lanelets.specs.Holding.{HoldsAt}
-use Rattle.lanelets.proofs.Holds.{holding_all, holds_read}
-use Rattle.lanelets.proofs.NumberLists.{lists_push, lists_skip}
-use Rattle.lanelets.proofs.BoxLists.{as_many_boxes, box_at}
+use Rattle.std.proofs.Common.{length, ap, arith}
+use Rattle.std.proofs.lemmas.Option.{slice_get-get_or}
+use Rattle.lanelets.proofs.BoxLists.{as_many_boxes, block_skip}
+use Rattle.lanelets.proofs.Holds.{holding_all}
 use Rattle.lanelets.proofs.search.cells_holding.Goals as goal
-use Rattle.lanelets.proofs.search.cells_holding.Goals.{then-holds+in_ok-push, else-holds}
+use Rattle.lanelets.proofs.search.cells_holding.Goals.{then-covers+in_ok-add_holding, else-covers}
 
-pub offset_bounds-list-c : goal.offset_bounds-list-c
-offset_bounds-list-c c =
-    let many = as_many_boxes c.args.cells.now c.args.boxes.now c.requires in
-    let same = ap length c.list.ensures.is in omega (arith, many, same)
-
-pub bounds-list-c : goal.bounds-list-c
-bounds-list-c c =
-    let many = as_many_boxes c.args.cells.now c.args.boxes.now c.requires in
-    let same = ap length c.list.ensures.is in omega (arith, many, same)
-
-pub holds-requires : goal.holds-requires
-holds-requires c = box_at c.list.result.now c.args.boxes.now c.loop-c.c _ _ (rw c.list.ensures.is c.requires) c.loop-c-test.true
-
-pub overflow_cast-c : goal.overflow_cast-c
-overflow_cast-c c = let many = as_many_boxes c.args.cells.now c.args.boxes.now c.requires in omega (arith, many)
-
-pub loop-c-preserved : goal.loop-c-preserved
-loop-c-preserved c =
-    let P : ℕ → Type 0 = HoldsAt c.args.cells.now c.args.p in
-    let many = as_many_boxes c.args.cells.now c.args.boxes.now c.requires in
-    let same = ap length c.list.ensures.is in
-    let found = holds_read c.list.result.now c.args.p c.loop-c.c c.index-list-c.result (omega (arith, many, same)) in
-    let here = subst (λ (made : List Placed). HoldsAt made c.args.p c.loop-c.c ↔ InHull (slice_index_or c.list.result.now c.loop-c.c c.index-list-c.result).cell.poly c.args.p) c.list.ensures.is found in
-    elim c.if-holds.branch [
-      | then-holds+in_ok-push w ↦ lists_push P c.loop-c.c (c.loop-c.c + 1) c.loop-c.list.items c.if-holds.list.items refl (rw w.list-is w.in_ok-push.ensures.items) (here.1 (c.holds.ensures.0 w.if-holds.true)) c.loop-c.invariant
-      | else-holds w ↦ (
-          let never : P c.loop-c.c → ⊥ = λ h. (let t = c.holds.ensures.1 (here.0 h) in let f = w.if-holds.false in cc) in
-          rw w.list-is (lists_skip P c.loop-c.c (c.loop-c.c + 1) c.loop-c.list.items refl never c.loop-c.invariant))
-    ]
+pub loop-block-preserved : goal.loop-block-preserved
+loop-block-preserved c = elim c.if-covers.branch [
+  | then-covers+in_ok-add_holding w ↦ rw w.list-is (w.in_ok-add_holding.ensures c.loop-block.invariant)
+  | else-covers w ↦ (
+      rw w.list-is (block_skip c.args.cells.now c.args.boxes.now c.args.p c.loop-block.block _ c.loop-block.list.items c.requires
+      (rw (← c.deref-around-items.ensures.value) (slice_get-get_or c.deref-around-items.result.now c.loop-block.block _ c.loop-block-test.true))
+      (λ i. (let t = c.covers.ensures.1 i in let f = w.if-covers.false in cc))
+      c.loop-block.invariant))
+]
 
 pub returns : goal.returns
 returns c =
-    let many = as_many_boxes c.args.cells.now c.args.boxes.now c.requires in
-    rw c.from_vec.ensures (holding_all c.args.cells.now c.args.p c.loop-c.c c.loop-c.list.items (omega (arith, many)) c.loop-c.invariant)
+    let many = as_many_boxes c.args.cells.now c.args.boxes.now.each.items c.requires.each in
+    let all = c.requires.blocks.all in
+    let same = ap length c.deref-around-items.ensures.value in
+    rw c.from_vec.ensures (holding_all c.args.cells.now c.args.p _ c.loop-block.list.items (omega (arith, many, all, same)) c.loop-block.invariant)

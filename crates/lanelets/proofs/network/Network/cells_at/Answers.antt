@@ -7,9 +7,6 @@ use Rattle.convex_poly.specs.Polygons.{IsPosition}
 use Rattle.lanelets.proofs.Holds.{holding_is, start_position}
 use Rattle.lanelets.proofs.network.Network.cells_at.Goals as goal
 
-pub cells_holding-requires : goal.cells_holding-requires
-cells_holding-requires c = rw c.deref.ensures.value c.self.invariant.boxes_are
-
 pub returns-clause-list : goal.returns-clause-list
 returns-clause-list c =
     let list : Lists (HoldsAt c.self.inside.cells c.args.p) c.in_ok-list.list = c.in_ok-list.ensures in
