@@ -1,4 +1,4 @@
-use Rattle.std.proofs.Common.{◌≡◌, ◌∙◌, [], ◌∷◌, ◌++◌, ap, arith}
+use Rattle.std.proofs.Common.{◌∙◌, [], ◌∷◌, ◌++◌, ap, arith}
 use Rattle.spot_terms.specs.Report.{Text}
 use Rattle.text_report.proofs.Spaced.{starts, number_stands, ends}
 use Rattle.text_report.proofs.writers.put_end.Goals.{in-Done, in-Open, in-Empty}
