@@ -1,8 +1,10 @@
 //! Lists of base sets whose room is taken once, and the cutting of a set to runs.
 
-ghost use Rattle.std.specs.Prelude.{◌≡◌, ◌+◌, ◌<◌, ◌≤◌, ◌++◌, ◌∷◌, [], length, IfOk};
+ghost use Rattle.std.specs.Prelude.{◌≡◌, ◌↔◌, ◌+◌, ◌<◌, ◌≤◌, ◌++◌, ◌∷◌, [], length, IfOk, IsTrue};
 ghost use Rattle.std.specs.List.{AllByRecursion};
+ghost use Rattle.spot_terms.specs.Whole.{SizeAtMost, Within};
 ghost use Rattle.base_sets.specs.Values.{value_of};
+ghost use Rattle.convex_poly.specs.Polygons.{IsPosition};
 ghost use Rattle.carve.specs.Cuts.{IsCutBy, with_x};
 ghost use Rattle.carve.specs.Parts.{parts_of};
 ghost use Rattle.carve.specs.Ranges.{AreRunPlaces};
@@ -10,6 +12,7 @@ ghost use Rattle.carve.specs.Ranges.{AreRunPlaces};
 use base_sets::BaseSet;
 use convex_poly::Poly;
 use round_out::part_between;
+use spot_terms::Pt;
 use std::alloc::{AllocError, Global};
 use std::marker::Model;
 
@@ -101,10 +104,42 @@ pub fn cut_parts(b: &SetParts<'_>, runs: &[(i64, i64)], out: &mut SetList)
     ensures room { out.new.room ≡ out.old.room }
 {
     for run in runs {
-        if let Some(x) = part_between(b.x, run.0, run.1) {
-            out.push(set_with_x(b, x));
+        if lie_between(b.x.corners(), run.0, run.1) {
+            // both clips would only copy
+            out.push(set_with_x(b, b.x.copy()));
+        } else {
+            cut_part(b, run, out);
         }
     }
+}
+
+// Adds what of the set is left in a run, where something is.
+#[inline(never)]
+fn cut_part(b: &SetParts<'_>, run: &(i64, i64), out: &mut SetList)
+    requires corners { length b.now.x.now ≤ 18 }
+    requires low { SizeAtMost 40_000_000_000_000 run.now.0 }
+    requires high { SizeAtMost 40_000_000_000_000 run.now.1 }
+    requires room { length out.old.sets < out.old.room }
+    ensures sets { IsCutBy (parts_of b.now) (run.now ∷ []) out.old.sets out.new.sets }
+    ensures few { length out.new.sets ≤ length out.old.sets + 1 }
+    ensures room { out.new.room ≡ out.old.room }
+{
+    if let Some(x) = part_between(b.x, run.0, run.1) {
+        out.push(set_with_x(b, x));
+    }
+}
+
+// Whether all corners are at places from `lo` to `hi`.
+fn lie_between(corners: &[Pt], lo: i64, hi: i64) -> bool
+    requires { AllByRecursion IsPosition corners.now }
+    ensures { IsTrue result ↔ AllByRecursion (λ v. Within lo hi v.x) corners.now }
+{
+    for corner in corners {
+        if corner.x < lo || hi < corner.x {
+            return false;
+        }
+    }
+    true
 }
 
 /// The same of a set that has its polygons.
