@@ -51,10 +51,28 @@ fn before_blank(text: &str) -> Option<&str>
     text.strip_suffix('\r')
 }
 
+// Whether a byte is a space, a tab, a line feed or a carriage return.
+pub(crate) fn is_space(b: u8) -> bool
+    ensures { result ≡ is_blank b }
+{
+    b == b' ' || b == b'\t' || b == b'\n' || b == b'\r'
+}
+
+// Whether a text that isn't empty neither begins nor ends with a blank.
+fn has_no_blank_end(text: &[u8]) -> bool
+    ensures { IsTrue result → trimmed text.now ≡ text.now }
+{
+    let n = text.len();
+    n > 0 && !is_space(text[0]) && !is_space(text[n - 1])
+}
+
 // The text without the spaces, tabs, line feeds and carriage returns at both ends.
 pub(crate) fn trim(text: &str) -> &str
     ensures { result.now ≡ trimmed text.now }
 {
+    if has_no_blank_end(text.as_bytes()) {
+        return text;
+    }
     let mut rest = text;
     while let Some(more) = behind_blank(rest) {
         rest = more;
